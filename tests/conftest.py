@@ -15,7 +15,7 @@ pytest.register_assert_rewrite("support", "volumes", "kinds", "serving", "docume
 import support  # noqa: E402
 import volumes  # noqa: E402
 from kinds import kinds  # noqa: E402, F401
-from rescuing import bad_sectors, luks_cat, rescue  # noqa: E402, F401
+from rescuing import bad_sectors, disk1, disk2, luks_cat, rescue  # noqa: E402, F401
 from support import MARK, TOP, Program, built, wait_until  # noqa: E402
 
 # The options of the make that calls pytest are not for those that tests call.

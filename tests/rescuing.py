@@ -11,7 +11,10 @@ import termios
 import time
 
 import pytest
+import volumes
+from kinds import VOLUME1, VOLUME2
 from support import PATIENCE, TOP, built, end_group, must, run
+from volumes import copy_of
 
 COMMAND = TOP / "rescue/luksrd-rescue"
 
@@ -157,3 +160,26 @@ def blocks_by_ddrescuelog(path, status):
     """The bytes with this status in a map, as ddrescuelog lists them by sectors of 512."""
     listed = must("ddrescuelog", f"--list-blocks={status}", "--block-size=512", path).decode().split()
     return merged((int(sector) * 512, 512) for sector in listed)
+
+
+def says(ended, *texts, status):
+    """The run ended with this status and with these texts in its messages, and without a traceback."""
+    assert ended.status == status, ended
+    assert "Traceback" not in ended.message
+    for line in ended.message.splitlines():
+        assert re.match("luksrd-rescue: |usage: |    ", line), ended.message
+    assert all(text in ended.message for text in texts), ended.message
+
+
+@pytest.fixture
+def disk1(kinds, tmp_path):
+    """A copy of a small volume of LUKS1, in the folder of the test, with its key files."""
+    volumes.passphrases(tmp_path)
+    return copy_of(kinds / VOLUME1, tmp_path / "disk.img")
+
+
+@pytest.fixture
+def disk2(kinds, tmp_path):
+    """The same of LUKS2."""
+    volumes.passphrases(tmp_path)
+    return copy_of(kinds / VOLUME2, tmp_path / "disk.img")

@@ -1,44 +1,14 @@
-"""luksrd-rescue decrypt: the plaintext of volumes of all kinds, whole and in part; which key opens; what is asked at a terminal;
-which outputs are refused. What is expected is what was encrypted, or what luksCat writes."""
+"""luksrd-rescue decrypt: the plaintext of volumes of all kinds, whole and in part, by passphrase and by volume key; partitions
+and logical volumes. What is expected is what was encrypted, or what luksCat writes."""
 import os
 import random
-import re
-import shlex
-import signal
-import stat
 
 import pytest
 import volumes
 from kinds import BY_VOLUME_KEY, START, VOLUME1, VOLUME2, each_kind, volume_key_options
-from rescuing import Terminal
-from support import FULL, alone, must, needs, shown, wait_until
-from volumes import PASS, PASS2, WRONG, copy_of
+from rescuing import says
+from support import alone, must, needs, shown
 
-
-@pytest.fixture
-def disk1(kinds, tmp_path):
-    """A copy of a small volume of LUKS1, in the folder of the test, with its key files."""
-    volumes.passphrases(tmp_path)
-    return copy_of(kinds / VOLUME1, tmp_path / "disk.img")
-
-
-@pytest.fixture
-def disk2(kinds, tmp_path):
-    """The same of LUKS2."""
-    volumes.passphrases(tmp_path)
-    return copy_of(kinds / VOLUME2, tmp_path / "disk.img")
-
-
-def says(ended, *texts, status):
-    """The run ended with this status and with these texts in its messages, and without a traceback."""
-    assert ended.status == status, ended
-    assert "Traceback" not in ended.message
-    for line in ended.message.splitlines():
-        assert re.match("luksrd-rescue: |usage: |    ", line), ended.message
-    assert all(text in ended.message for text in texts), ended.message
-
-
-# Plaintext of all kinds
 
 @each_kind
 def test_whole(rescue, luks_cat, kinds, kind):
@@ -183,260 +153,68 @@ def test_memory_of_a_long_run(rescue, disk1):
     assert int((rescue.folder / "memory").read_text()) < 150 << 10
 
 
-# Keys
+# Logical volumes
 
-def test_key_file_that_is_wrong(rescue, disk2):
-    for name, content in {"newline": PASS + b"\n", "wrong": WRONG, "empty": b""}.items():
-        (rescue.folder / name).write_bytes(content)
-        ended = rescue("decrypt", disk2, "--key-file", name, "-o", "plain")
-        says(ended, "no key slot opens by this key file", status=2)
-        assert ("ends with a newline" in ended.message) == (name == "newline")
-        assert not (rescue.folder / "plain").exists() and not (rescue.folder / "plain.map").exists()
-
-
-def test_key_file_on_standard_input(rescue, disk2, kinds):
-    says(rescue("decrypt", disk2, "--key-file", "-", "-o", "plain", stdin=PASS2), status=0)
-    assert (rescue.folder / "plain").read_bytes() == kinds.text(VOLUME2)
+SETUP = """pvcreate -q --metadatasize 32k --dataalignment 4k FIRST SECOND
+vgcreate -q -s 1M --setautoactivation n vg0 FIRST SECOND
+lvcreate -q -an -Zn -Wn -n root -l 4 vg0 FIRST
+lvcreate -q -an -Zn -Wn -n home -l 3 vg0 FIRST
+lvextend -q -l +2 vg0/root FIRST
+lvcreate -q -an -Zn -Wn -n far -l 2 vg0 SECOND
+lvcreate -q -an -Zn -Wn -n striped -l 2 vg0 -i 2"""
 
 
-@pytest.mark.parametrize("name, status, text", [
-    ("missing", 4, "cannot open the key file: No such file or directory"), (".", 4, "Is a directory"),
-    ("long", 1, "key file is longer than 8388608 bytes")])
-def test_key_file_that_cannot_be(rescue, disk2, name, status, text):
-    with open(rescue.folder / "long", "wb") as file:
-        file.truncate((8 << 20) + 1)
-    says(rescue("decrypt", disk2, "--key-file", name, "-o", "plain"), text, status=status)
+@pytest.fixture
+def physical(loop, cached):
+    """A volume of LUKS2 with a physical volume of LVM2, its plaintext, and where the pieces of `root` are in that, by lvs."""
+    def make(folder):
+        folder.mkdir()
+        for name in "first", "second":
+            (folder / name).write_bytes(random.Random(name).randbytes(16 << 20))
+        devices = [loop(folder / name) for name in ("first", "second")]
+        config = (f'devices {{ filter = ["a|^{devices[0]}$|", "a|^{devices[1]}$|", "r|.*|"] use_devicesfile = 0 '
+                  'data_alignment_detection = 0 default_data_alignment = 0 } '
+                  f'global {{ use_lvmpolld = 0 locking_dir = "{folder}" }} activation {{ udev_sync = 0 udev_rules = 0 }} '
+                  'backup { backup = 0 archive = 0 }')
 
+        def lvm(line):
+            command, *words = line.replace("FIRST", devices[0]).replace("SECOND", devices[1]).split()
+            return must("lvm", command, "--driverloaded", "n", "--config", config, *words).decode()
 
-def test_no_terminal(rescue, disk2):
-    says(rescue("decrypt", disk2, "-o", "plain"), "there is no terminal to ask for a passphrase at", status=1)
+        for line in SETUP.splitlines():
+            lvm(line)
+        start = int(lvm(f"pvs --noheadings --units b --nosuffix -o pe_start {devices[0]}"))
+        extents = [int(row.split()[0]) for row in lvm("lvs --noheadings --segments -o seg_pe_ranges vg0/root").replace(
+            f"{devices[0]}:", "").replace("-", " ").splitlines()]
+        assert len(extents) == 2
+        must("sync")
+        (folder / "starts").write_text(" ".join(str(start + (extent << 20)) for extent in extents))
+        volumes.luks2(folder / "disk.img", (folder / "first").read_bytes(), "aes-xts-plain64", 512, "--sector-size", "4096")
 
-
-def test_typed(rescue, disk2, kinds):
-    """It is not shown; two wrong ones leave no file."""
-    with Terminal(rescue, "decrypt", "disk.img", "-o", "plain") as terminal:
-        terminal.asked(1).type(WRONG + b"\n").until(rb"no key slot opens by this passphrase")
-        assert not (rescue.folder / "plain").exists()
-        terminal.asked(2).type(b"\n").asked(3).type(PASS + b"\n")
-        assert terminal.ended() == 0 and terminal.echoes()
-        assert PASS not in terminal.shown and WRONG not in terminal.shown
-    assert (rescue.folder / "plain").read_bytes() == kinds.text(VOLUME2)
-
-
-def test_three_wrong_ones(rescue, disk2):
-    with Terminal(rescue, "decrypt", "disk.img", "-o", "plain") as terminal:
-        for number in range(3):
-            terminal.asked(number + 1).type(WRONG + b"\n")
-        assert terminal.ended() == 2 and terminal.echoes()
-        assert terminal.shown.count(b"no key slot opens by this passphrase") == 3
-        assert b"Caps Lock" in terminal.shown and b"layout" in terminal.shown
-    assert not (rescue.folder / "plain").exists()
-
-
-def test_bytes_as_typed(rescue, disk2):
-    odd = b" \xff\xc3\xbc\\ $(id) '\" "
-    (rescue.folder / "odd").write_bytes(odd)
-    volumes.cryptsetup("luksAddKey --pbkdf pbkdf2 --pbkdf-force-iterations 1000 --key-file pass", disk2, "odd", cwd=rescue.folder)
-    with Terminal(rescue, "decrypt", "disk.img", "-o", "plain") as terminal:
-        terminal.asked().type(odd + b"\n")
-        assert terminal.ended() == 0, terminal.shown
-
-
-@pytest.mark.parametrize("number", [signal.SIGINT, signal.SIGTERM, signal.SIGHUP, signal.SIGQUIT])
-def test_signal_at_the_prompt(rescue, disk2, number):
-    with Terminal(rescue, "decrypt", "disk.img", "-o", "plain") as terminal:
-        terminal.asked().type(b"begun").signal(number)
-        assert terminal.ended() == (130 if number == signal.SIGINT else -number)
-        assert terminal.echoes() and b"Traceback" not in terminal.shown
-    assert not (rescue.folder / "plain").exists()
-
-
-def test_suspended_at_the_prompt(rescue, disk2):
-    """Ctrl-Z turns echo on, and it asks again afterwards."""
-    command = shlex.join(rescue.command("decrypt", "disk.img", "-o", "plain"))
-    rescue.command = lambda *words: ["bash", "--norc", "-mc", f"{command}; echo stopped; read -r _; fg >/dev/null"]
-    with Terminal(rescue) as terminal:
-        terminal.asked().type(b"begun\x1a").until(rb"stopped\r")
-        assert terminal.echoes()
-        terminal.type(b"\n").asked(2).type(PASS + b"\n")
-        assert terminal.ended() == 0, terminal.shown
-
-
-def test_end_of_input_at_the_prompt(rescue, disk2):
-    with Terminal(rescue, "decrypt", "disk.img", "-o", "plain") as terminal:
-        terminal.asked().type(b"\x04")
-        assert terminal.ended() == 1 and b"no passphrase was typed" in terminal.shown and terminal.echoes()
-
-
-def test_key_file_that_is_the_terminal(rescue, disk2):
-    with Terminal(rescue, "decrypt", "disk.img", "--key-file", "-", "-o", "plain") as terminal:
-        assert terminal.ended() == 1 and b"standard input is a terminal" in terminal.shown
-
-
-def test_passphrase_is_overwritten(rescue, disk2, tmp_path):
-    """Neither the passphrase that was typed nor that of a key file is in memory while the volume is decrypted."""
-    os.mkfifo(tmp_path / "fifo")
-    secret = b"long passphrase that is nowhere else"
-    (tmp_path / "key").write_bytes(secret)
-    volumes.cryptsetup("luksAddKey --pbkdf pbkdf2 --pbkdf-force-iterations 1000 --key-file pass", disk2, "key", cwd=tmp_path)
-    reading = os.open(tmp_path / "fifo", os.O_RDONLY | os.O_NONBLOCK)
-    writing = os.open(tmp_path / "fifo", os.O_WRONLY)
-    with Terminal(rescue, "decrypt", "disk.img", "-o", "-", stdout=writing) as terminal:
-        terminal.asked().type(secret + b"\n").until(rb"trying key slot")
-        wait_until(lambda: has_something(reading))
-        assert secret not in memory_of(terminal.process.pid)
-        while terminal.process.poll() is None:
-            has_something(reading)
-    os.close(reading)
-    os.close(writing)
-
-
-def has_something(descriptor):
-    try:
-        return os.read(descriptor, 65536)
-    except BlockingIOError:
-        return b""
-
-
-def memory_of(process):
-    """What is in the memory of a process."""
-    found = []
-    with open(f"/proc/{process}/maps", encoding="utf-8") as maps, open(f"/proc/{process}/mem", "rb", buffering=0) as memory:
-        for line in maps:
-            words = line.split()
-            start, end = (int(word, 16) for word in words[0].split("-"))
-            if "r" not in words[1] or line.rstrip().endswith(("[vvar]", "[vsyscall]")):
-                continue
-            memory.seek(start)
-            try:
-                found.append(memory.read(end - start))
-            except OSError:
-                continue
-    return b"".join(found)
-
-
-# Outputs
-
-def test_file_is_private_and_new(rescue, disk1, kinds):
-    plain = rescue.folder / "plain"
-    os.umask(0)
-    try:
-        assert rescue("decrypt", disk1, "--key-file", "pass", "-o", "plain").status == 0
-    finally:
-        os.umask(0o022)
-    assert stat.S_IMODE(plain.stat().st_mode) == 0o600
-    says(rescue("decrypt", disk1, "--key-file", "pass", "-o", "plain"), "there is such a file", status=1)
-    plain.write_bytes(b"x" * (1 << 20))
-    plain.chmod(0o644)
-    says(rescue("decrypt", disk1, "--key-file", "wrong", "-o", "plain", "--force"), status=2)
-    assert plain.read_bytes() == b"x" * (1 << 20)
-    assert rescue("decrypt", disk1, "--key-file", "pass", "-o", "plain", "--force").status == 0
-    assert plain.read_bytes() == kinds.text(VOLUME1) and stat.S_IMODE(plain.stat().st_mode) == 0o600
-
-
-@pytest.mark.parametrize("how", ["itself", "link", "symbolic link", "header", "key file", "image map", "standard output", "map"])
-def test_output_is_an_input(rescue, disk2, how):
-    folder = rescue.folder
-    words = {"itself": "disk.img", "link": "link", "symbolic link": "symlink", "header": "header", "key file": "pass",
-             "image map": "disk.map", "standard output": "-", "map": "plain"}[how]
-    copy_of(disk2, folder / "header")
-    os.link(disk2, folder / "link")
-    os.symlink("disk.img", folder / "symlink")
-    (folder / "disk.map").write_text(f"0 + 1\n0 {disk2.stat().st_size} +\n")
-    before = {name: (folder / name).read_bytes() for name in ("disk.img", "header", "pass", "disk.map")}
-    more = ["--map", "disk.img"] if how == "map" else []
-    with open(disk2, "ab") as appended:
-        ended = rescue("decrypt", "disk.img", "--key-file", "pass", "--header", "header", "--image-map", "disk.map", "--force",
-                       "-o", words, *more, **({"stdout": appended} if how == "standard output" else {}))
-    says(ended, status=1)
-    assert {name: (folder / name).read_bytes() for name in before} == before
-
-
-@pytest.mark.parametrize("output, text", [
-    ("folder", "is a folder"), ("no/such", "there is no such folder"), ("fifo", "is neither a file nor a block device"),
-    ("dangling", "is a link to a file that is not there"), ("/dev/full", "is neither a file nor a block device"),
-    ("a\0b", "usage")])
-def test_output_that_cannot_be(rescue, disk1, output, text):
-    (rescue.folder / "folder").mkdir()
-    os.mkfifo(rescue.folder / "fifo")
-    os.symlink("nowhere", rescue.folder / "dangling")
-    if "\0" in output:
-        pytest.skip("no argument has a zero byte")
-    says(rescue("decrypt", disk1, "--key-file", "pass", "-o", output, "--force"), text, status=1)
-
-
-def test_standard_output_that_is_a_terminal(rescue, disk1):
-    with Terminal(rescue, "decrypt", "disk.img", "--key-file", "pass", "-o", "-") as terminal:
-        assert terminal.ended() == 1 and b"standard output is a terminal" in terminal.shown
-
-
-def test_pipe(rescue, disk2, kinds):
-    ended = rescue("decrypt", disk2, "--key-file", "pass", "-o", "-", "--quiet")
-    assert (ended.status, ended.message, shown(ended.output)) == (0, "", shown(kinds.text(VOLUME2)))
-    ended = rescue("decrypt", disk2, "--key-file", "pass", "-o", "-", "--quiet", stdout=FULL)
-    says(ended, "standard output: write failed: No space left on device", status=6)
-    says(rescue("decrypt", disk2, "--key-file", "pass", "-o", "-", "--resume"), "cannot be gone on with", status=1)
-
-
-def test_closed_streams(rescue, disk2):
-    """No file gets the number of standard output, and so no message."""
-    ended = rescue("decrypt", disk2, "--key-file", "pass", "-o", "-", "--quiet", preexec_fn=lambda: os.close(1))
-    says(ended, "write failed", status=6)
-    ended = rescue("decrypt", disk2, "--key-file", "pass", "-o", "plain", preexec_fn=lambda: [os.close(it) for it in (0, 1, 2)])
-    assert b"luksrd-rescue" not in (rescue.folder / "plain").read_bytes()
+    return cached("physical volumes", make)
 
 
 @alone
-@needs("loop")
-def test_devices(rescue, disk2, kinds, loop, tmp_path):
-    """A device gets the zeros, too, if it is large enough and has nothing to do with the image."""
-    content = kinds.text(VOLUME2)
-    (tmp_path / "target").write_bytes(b"x" * (len(content) + 4096))
-    (tmp_path / "small").write_bytes(b"x" * (len(content) - 4096))
-    image, target, small, other = (loop(tmp_path / name) for name in ("disk.img", "target", "small", "disk.img"))
-    words = ["decrypt", "disk.img", "--key-file", "pass"]
-    says(rescue(*words, "-o", target), "is a device: --force overwrites all that is on it", status=1)
-    says(rescue(*words, "--force", "-o", small), "and the plaintext", status=1)
-    for from_, to in (("disk.img", image), (image, "disk.img"), (image, other), (image, image)):
-        says(rescue("decrypt", from_, "--key-file", "pass", "--force", "-o", to), "nothing is written there", status=1)
-    assert rescue("decrypt", image, "--key-file", "pass", "--force", "-o", target).status == 0
-    must("blockdev", "--flushbufs", target)
-    assert (tmp_path / "target").read_bytes() == content + b"x" * 4096
+@needs("loop", "lvm", "partx")
+def test_logical_volumes(rescue, physical, tmp_path):
+    """Linear pieces are joined; others are refused by name."""
+    plain = (physical / "first").read_bytes()
+    first, second = map(int, (physical / "starts").read_text().split())
+    root = plain[first:first + (4 << 20)] + plain[second:second + (2 << 20)]
+    words = ["decrypt", physical / "disk.img", "--key-file", physical / "pass"]
+    for number, name in enumerate(("vg0/root", "root")):
+        says(rescue(*words, "--lv", name, "-o", f"root{number}"), status=0)
+        assert shown((tmp_path / f"root{number}").read_bytes()) == shown(root)
+    says(rescue(*words, "--lv", "root", "--range", f"{(4 << 20) - 100}:1000", "-o", "part"), status=0)
+    assert (tmp_path / "part").read_bytes() == root[(4 << 20) - 100:(4 << 20) + 900]
+    for name in "vg0/striped", "vg0/far", "vg0/none":
+        says(rescue(*words, "--lv", name, "-o", "other"), name, status=1)
+    assert not (tmp_path / "other").exists()
+    ended = rescue(*words, "-o", "plain")
+    says(ended, status=0)
+    assert b"vg0/root" in ended.output and b"LVM" in ended.output
 
 
-@pytest.mark.parametrize("word, value", [("0", 0), ("512", 512), ("2s", 1024), ("1k", 1000), ("1kB", 1000), ("1Ki", 1024),
-                                         ("1KiB", 1024), ("1M", 10 ** 6), ("1Mi", 1 << 20), ("0x10", 16), ("010", 8), ("2G", 2 * 10 ** 9),
-                                         ("1Ti", 1 << 40)])
-def test_numbers(word, value):
-    """ddrescue's suffixes."""
-    import sys
-    from support import TOP
-    sys.path.insert(0, str(TOP / "rescue"))
-    from luksrd_rescue.command import number
-    assert number(word) == value
-
-
-@pytest.mark.parametrize("word", ["", "1K", "1m", "x", "-1", "1 ", "1e3", "9223372036854775808", "08", "1.5M"])
-def test_no_numbers(rescue, disk1, word):
-    says(rescue("decrypt", disk1, f"--offset={word}", "-o", "plain"), "--offset", status=1)
-
-
-@pytest.mark.parametrize("words, text", [
-    ([], "usage"), (["nonsense"], "usage"), (["decrypt"], "usage"), (["decrypt", "disk.img"], "usage"),
-    (["decrypt", "disk.img", "-o", "x", "--key-slot", "32"], "--key-slot"), (["decrypt", "disk.img", "-o", "x", "--range", "1"], "--range"),
-    (["decrypt", "disk.img", "-o", "x", "--cipher", "rot13"], "--cipher"),
-    (["decrypt", "disk.img", "-o", "x", "--payload-offset", "1"], "goes with --volume-key-file"),
-    (["decrypt", "disk.img", "-o", "x", "--key-file", "a", "--volume-key-file", "b"], "not allowed with"),
-    (["decrypt", "disk.img", "-o", "x", "--resume", "--retry", "m"], "not allowed with"),
-    (["decrypt", "disk.img", "-o", "x", "--length", "0x"], "--length")])
-def test_arguments_that_cannot_be(rescue, disk1, words, text):
-    says(rescue(*words), text, status=1)
-
-
-@pytest.mark.parametrize("image, text, status", [
-    ("missing", "missing: cannot open: No such file or directory", 4), (".", "is a folder", 4), ("/dev/null", "is neither", 4),
-    ("pass", "no LUKS header", 4), ("empty", "no LUKS header", 4)])
-def test_images_that_cannot_be(rescue, disk1, image, text, status):
-    (rescue.folder / "empty").touch()
-    says(rescue("decrypt", image, "--key-file", "pass", "-o", "plain"), text, status=status)
+def test_no_logical_volumes(rescue, disk2):
+    says(rescue("decrypt", disk2, "--key-file", "pass", "--lv", "root", "-o", "plain"), "LVM2", status=1)
     assert not (rescue.folder / "plain").exists()

@@ -9,9 +9,8 @@ import subprocess
 import pytest
 import volumes
 from kinds import ESSIV, START, VOLUME1, VOLUME2
-from rescuing import blocks_by_ddrescuelog, merged, with_zeros
+from rescuing import blocks_by_ddrescuelog, merged, says, with_zeros
 from support import must, namespace, needs, shown
-from test_rescue_decrypt import says
 from volumes import copy_of, metadata
 
 pytestmark = needs("cc")
@@ -185,7 +184,7 @@ def test_bad_sector_in_the_first_header(rescue, volume, kinds, bad_sectors, at):
     """The second header is used."""
     image = volume(VOLUME2)
     ended = rescue("decrypt", "disk.img", "--key-file", "pass", "-o", "plain", env=bad_sectors(image, [(at, 1)]))
-    says(ended, "of the header cannot be read", status=0)
+    says(ended, "sectors of the header cannot be read; the secondary header is used", status=0)
     assert (rescue.folder / "plain").read_bytes() == kinds.text(VOLUME2)
 
 
@@ -228,12 +227,19 @@ def test_bad_sector_after_the_key_material(rescue, volume, kinds, bad_sectors):
 
 
 def test_bad_sectors_of_luks1(rescue, volume, kinds, bad_sectors):
+    """The first sector has what all slots need. The second one has slot 7 and a part of slot 6."""
     image = volume(VOLUME1)
-    says(rescue("decrypt", "disk.img", "--offset", "0", "--key-file", "pass", "-o", "x", env=bad_sectors(image, [(512, 1)])),
+    volumes.cryptsetup("luksAddKey --key-file pass --pbkdf-force-iterations 1000 --key-slot 7", image, "wrong", cwd=rescue.folder)
+    says(rescue("decrypt", "disk.img", "--offset", "0", "--key-file", "pass", "-o", "x", env=bad_sectors(image, [(511, 1)])),
          "the header cannot be read", status=6)
-    ended = rescue("decrypt", "disk.img", "--key-file", "pass2", "-o", "plain", env=bad_sectors(image, [(4096, 512)]))
-    says(ended, "key slot 0 is left out", status=0)
-    assert (rescue.folder / "plain").read_bytes() == kinds.text(VOLUME1)
+    env = bad_sectors(image, [(512, 1)])
+    says(rescue("decrypt", "disk.img", "--key-file", "wrong", "-o", "x", env=env), "sectors of the header cannot be read", status=2)
+    for number, areas in enumerate(([], [(4096, 512)])):
+        ended = rescue("decrypt", "disk.img", "--key-file", "pass2", "-o", f"plain{number}",
+                       env=bad_sectors(image, [(512, 1), *areas]))
+        says(ended, status=0)
+        assert ("key slot 0 is left out" in ended.message) == bool(areas)
+        assert (rescue.folder / f"plain{number}").read_bytes() == kinds.text(VOLUME1)
 
 
 def test_map_of_the_image_and_the_header(rescue, volume, kinds):

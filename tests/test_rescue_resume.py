@@ -4,13 +4,13 @@ import os
 import random
 import re
 import signal
+import subprocess
 import time
 
 import pytest
 import volumes
-from rescuing import Terminal
+from rescuing import Terminal, says
 from support import needs, shown, wait_until
-from test_rescue_decrypt import says
 
 LENGTH = 160 << 20
 PIECE = 1 << 20
@@ -71,27 +71,27 @@ def blocks_of(path):
 def test_killed(rescue, large, plain, number):
     """What the map calls done is right at each moment, and --resume gives the same bytes."""
     out, chance = rescue.folder / "plain", random.Random(number)
-    run = rescue.start(*COMMAND)
-    moments = 0
-    while run.poll() is None:
-        time.sleep(chance.uniform(0.05, 0.8))
+    for again in range(8):
+        run = rescue.start(*COMMAND, "--quiet", *(["--resume"] if again else []), stdout=subprocess.DEVNULL, stderr=subprocess.DEVNULL)
+        time.sleep(chance.uniform(0.1, 1.5))
         run.kill()
-        ended = run.wait()
-        moments += 1
-        if ended == 0:
+        if run.wait() == 0:
             break
-        if (rescue.folder / "plain.map").exists():
-            with open(out, "rb") as written, open(plain, "rb") as wanted:
-                for start, length, status in blocks_of(rescue.folder / "plain.map"):
-                    if status == "+":
-                        written.seek(start), wanted.seek(start)
-                        assert shown(written.read(length)) == shown(wanted.read(length))
-        run = rescue.start(*COMMAND, "--resume")
-        if moments > 12:
-            # (a busy machine: let it come to an end)
-            run.communicate()
-    says(rescue(*COMMAND, "--resume") if not out.exists() else rescue(*COMMAND, "--resume", "--force"), status=0)
+        check_map(rescue.folder, plain)
+    else:
+        says(rescue(*COMMAND, "--resume"), status=0)
     assert same(out, plain)
+
+
+def check_map(folder, plain):
+    """What the map of a run that was killed calls done is right."""
+    if not (folder / "plain.map").exists():
+        return
+    with open(folder / "plain", "rb") as written, open(plain, "rb") as wanted:
+        for start, length, status in blocks_of(folder / "plain.map"):
+            if status == "+":
+                written.seek(start), wanted.seek(start)
+                assert shown(written.read(length)) == shown(wanted.read(length))
 
 
 def test_killed_and_gone_on_with_once(rescue, large, plain):
@@ -233,14 +233,18 @@ def test_map_of_something_else(rescue, large, begun, tmp_path):
 
 
 def test_no_map(rescue, large, plain, begun, tmp_path):
-    """Without a map it begins anew, but not over a file that may be another one."""
+    """Without a map it begins anew, but not over a file that is clearly another one."""
     (tmp_path / "plain.map").unlink()
-    says(begun(), "no map plain.map", status=1)
-    says(begun("--force"), status=0)
+    (tmp_path / "other").write_bytes(b"x" * 1000)
+    says(begun("-o", "other"), "no map other.map", status=1)
+    assert (tmp_path / "other").read_bytes() == b"x" * 1000
+    says(begun(), status=0)
     assert same(tmp_path / "plain", plain)
     (tmp_path / "plain").unlink()
     says(begun(), status=0)
     assert same(tmp_path / "plain", plain)
+    says(begun("-o", "other", "--force"), status=0)
+    assert same(tmp_path / "other", plain)
 
 
 def test_file_that_was_changed(rescue, large, begun, tmp_path):

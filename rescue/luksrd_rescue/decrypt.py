@@ -11,6 +11,7 @@ from typing import NamedTuple, Optional
 from . import choosing, contents, maps, resuming, terminal, unlocking, working
 from .command import (FAILED, IMAGE, INTERRUPTED, USAGE, Refusal, number, say, shown, sized)
 from .image import Image, Loaded, open_image
+from .words import quoted
 from .writing import Kept, Output, Target
 
 EXAMPLES = """\
@@ -101,7 +102,19 @@ def run(arguments: argparse.Namespace) -> int:
         with unlocked.volume:
             payload = working.Payload(unlocked.volume, image, loaded, volume.offset + unlocked.payload)
             begun = _begin(arguments, volume, payload, target, map_path)
-            return _finish(arguments, volume, begun, target.open(begun.length, kept, begun.is_new))
+            output = target.open(begun.length, kept, begun.is_new)
+            if map_path is not None:
+                _save_first(begun, target)
+            return _finish(arguments, volume, begun, output)
+
+
+def _save_first(begun: _Begun, target: Target) -> None:
+    """Writes the map before there is any data."""
+    try:
+        maps.save_or_refuse(begun.done, begun.map_path)
+    except Refusal:
+        target.remove()
+        raise
 
 
 def _chosen(image: Image, arguments: argparse.Namespace) -> choosing.Volume:
@@ -109,7 +122,8 @@ def _chosen(image: Image, arguments: argparse.Namespace) -> choosing.Volume:
     options = arguments.partition, arguments.offset, arguments.length, arguments.header
     if arguments.payload_offset is not None and all(it is None for it in options):
         return choosing.find_volumes(image.patched(), offset=0)[0]
-    return choosing.choose(image.patched(), arguments)
+    with terminal.Progress(image.size, "B", arguments.quiet) as progress:
+        return choosing.choose(image.patched(), arguments, progress)
 
 
 def _kept(arguments: argparse.Namespace, image: Image) -> list[Kept]:
@@ -190,9 +204,6 @@ def _finish(arguments: argparse.Namespace, volume: choosing.Volume, begun: _Begu
     """Decrypts into the open output, and says what came of it."""
     statuses = maps.UNTRIED + maps.UNTRIMMED + maps.UNSCRAPED
     statuses += maps.BAD if arguments.retry is not None else ""
-    if begun.map_path is not None:
-        # (so that there is a map before there is any data)
-        maps.save_or_refuse(begun.done, begun.map_path)
     left = sum(it.length for it in begun.done.blocks() if it.status in statuses)
     work = working.Work(begun.payload, working.to_do(begun.parts, begun.done, statuses), output,
                         begun.done, begun.map_path)
@@ -229,11 +240,11 @@ def _report(arguments: argparse.Namespace, volume: choosing.Volume, begun: _Begu
     if bad:
         how = "" if begun.map_path is None else f"; --retry {shown(begun.map_path)} tries them again"
         say(arguments.output, f"{sized(bad)} of {sized(begun.length)} are missing{how}")
-    elif begun.map_path is not None and arguments.map is None and arguments.retry is None:
+    if arguments.output != "-":
+        _describe(arguments, begun)
+    if not bad and begun.map_path is not None and arguments.map is None and arguments.retry is None:
         with contextlib.suppress(OSError):
             os.unlink(begun.map_path)
-    if arguments.output != "-":
-        _describe(arguments, begun, volume)
     return FAILED if bad else IMAGE if missing else 0
 
 
@@ -250,7 +261,7 @@ def _missing(arguments: argparse.Namespace, volume: choosing.Volume, begun: _Beg
     return ""
 
 
-def _describe(arguments: argparse.Namespace, begun: _Begun, volume: choosing.Volume) -> None:
+def _describe(arguments: argparse.Namespace, begun: _Begun) -> None:
     """What the plaintext is, and the next command."""
     slot = begun.payload.volume.key_slot
     by = "the volume key" if slot is None else f"key slot {slot}"
@@ -258,7 +269,8 @@ def _describe(arguments: argparse.Namespace, begun: _Begun, volume: choosing.Vol
     try:
         with open_image(arguments.output) as written:
             found = contents.identify(written, arguments.output)
-        for line in contents.lines(found):
+        again = f"luksrd-rescue decrypt {quoted(arguments.image)}{choosing.words_of(arguments)}"
+        for line in contents.lines(found, again):
             print(line)
     except (Refusal, OSError) as error:
         say(arguments.output, f"what it is was not found out: {error}")

@@ -75,18 +75,19 @@ def earlier(path: str, identity: Identity, target: Target,
             arguments: argparse.Namespace) -> Optional[maps.Map]:
     """The map of the earlier run; None if there is none, so that all is begun anew."""
     source = arguments.retry if arguments.retry is not None else path
+    length = sum(it[1] for it in identity.pieces)
     if not os.path.exists(source):
         if arguments.retry is not None:
             raise Refusal(USAGE, source, "there is no such map")
-        if target.is_there and not arguments.force:
-            raise Refusal(USAGE, target.path, f"there is such a file, but no map {shown(source)} that says "
-                          "what of it is done: --force begins anew")
+        # (a file of this length is one that a run has left before it had a map, or without it)
+        if target.is_there and target.length != length and not arguments.force:
+            raise Refusal(USAGE, target.path, f"there is such a file, but no map {shown(source)}, and it "
+                          f"has not the length of the plaintext, {length} bytes: --force overwrites it")
         return None
     found = maps.load(source)
     difference = identity.differs_from(found.comments)
     if difference:
         raise Refusal(USAGE, source, difference)
-    length = sum(it[1] for it in identity.pieces)
     if found.size != length:
         raise Refusal(USAGE, source, f"is of {found.size} bytes, not {length}")
     if target.is_there:

@@ -236,8 +236,8 @@ class Progress:
     def __init__(self, total: int, unit: str = "B", is_quiet: bool = False) -> None:
         self._total, self._unit, self._done = total, unit, 0
         self._begun = self._last = time.monotonic()
-        self._first, self._is_quiet = 0, is_quiet
-        self._bar = None if is_quiet or not is_terminal() else _bar(total, unit)
+        self._is_quiet, self._has_bar = is_quiet, not is_quiet and is_terminal()
+        self._bar = None
 
     def __enter__(self) -> Progress:
         return self
@@ -246,8 +246,10 @@ class Progress:
         self.close()
 
     def advance(self, count: int) -> None:
-        """So much more is done."""
+        """So much more is done. What needs no time shows nothing."""
         self._done += count
+        if count and self._has_bar:
+            self._bar, self._has_bar = _bar(self._total, self._unit), False
         if self._bar is not None:
             self._bar.update(count)
         elif not self._is_quiet and time.monotonic() - self._last >= _SECONDS:

@@ -22,6 +22,8 @@ import luksrd  # noqa: E402  pylint: disable=wrong-import-position,wrong-import-
 # luksrd looks at no more of an image to open it
 HEADER_BYTES = 32 << 20
 TRIES = 3
+# where the header of LUKS1 has its key slots, of so many bytes each
+_SLOTS1, _SLOT1_BYTES = 208, 48
 CIPHERS = ["aes-xts-plain64", "aes-xts-plain", "aes-cbc-essiv:sha256", "aes-cbc-plain64"]
 KEYBOARD = ("Caps Lock or Num Lock may be on, and at boot the keyboard may have had another layout: "
             "type the passphrase as if on that one")
@@ -126,7 +128,8 @@ class _Attempt:
         if facts is None:
             raise self._no_header()
         if head.is_lost(0, facts.header_length):
-            say(self._image.path, "sectors of the header cannot be read; another copy of it is used")
+            used = "" if facts.version == 1 else f"; the {facts.raw.get('header')} header is used"
+            say(self._image.path, f"sectors of the header cannot be read{used}")
         if facts.fault:
             raise Refusal(USAGE, self._image.path, f"luksrd does not read this volume: {facts.fault}")
         self._slots = [slot for slot in self._wanted(facts) if self._is_there(slot)]
@@ -148,7 +151,13 @@ class _Attempt:
         raise Refusal(USAGE, self._image.path, f"key slot {wanted} is not in use; in use: {numbers}")
 
     def _is_there(self, slot: Slot) -> bool:
-        """Whether the key material of a slot can be read; says so if not."""
+        """Whether the key material of a slot can be read, and what LUKS1, which has no checksum, has
+        of it in the header; says so if not."""
+        start = _SLOTS1 + slot.number * _SLOT1_BYTES
+        if self._facts.version == 1 and self._head.is_lost(start, _SLOT1_BYTES):
+            say(self._image.path, f"key slot {slot.number} is left out: its part of the header cannot "
+                "be read")
+            return False
         is_lost = self._head.is_lost(slot.area_offset, slot.area_length)
         if is_lost:
             say(self._image.path, f"key slot {slot.number} is left out: its key area has sectors that "

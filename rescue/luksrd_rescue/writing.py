@@ -5,6 +5,7 @@ from __future__ import annotations
 import contextlib
 import errno
 import os
+import select
 import stat
 from typing import Iterator, NamedTuple, Optional, Protocol
 
@@ -136,7 +137,11 @@ class PipeOutput:
     def write(self, view: memoryview, _: int) -> None:
         """Writes all of it."""
         while view:
-            view = view[os.write(1, view):]
+            try:
+                view = view[os.write(1, view):]
+            except BlockingIOError:
+                # (whoever made the pipe wants writes that do not wait)
+                select.select([], [1], [])
 
     def flush(self) -> None:
         """Nothing can be done for a pipe, and a file that the shell opened is not ours to sync."""
@@ -154,8 +159,10 @@ class Target:
         self.is_pipe = path == PIPE
         self._found = None if self.is_pipe else _status(path)
         self.is_device = self._found is not None and stat.S_ISBLK(self._found.st_mode)
-        #: whether a file is there that an earlier run may have begun
-        self.is_there = self._found is not None and (self.is_device or self._found.st_size > 0)
+        #: the length of a file that is there
+        self.length = self._found.st_size if self._found is not None else 0
+        #: whether there is something that an earlier run may have begun
+        self.is_there = self.is_device or self.length > 0
 
     def check(self, kept: list[Kept]) -> None:
         """Refuses what must not be written to, before anybody is asked for a passphrase."""
@@ -207,6 +214,12 @@ class Target:
             if related.are_related(found, it.identity) or related.is_inside(found, it.identity):
                 raise Refusal(USAGE, shown_path(self.path), f"is {it.path} itself, a part of it, or what it is a "
                               "part of: nothing is written there")
+
+    def remove(self) -> None:
+        """Takes a file that was made back, since nothing will be written to it."""
+        if self._found is None and not self.is_pipe:
+            with contextlib.suppress(OSError):
+                os.unlink(self.path)
 
     def warn_of_room(self, length: int) -> None:
         """Says how much may be missing on the file system of the output."""

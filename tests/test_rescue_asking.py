@@ -1,0 +1,141 @@
+"""luksrd-rescue decrypt: key files, and passphrases that are asked for at a terminal."""
+import os
+import shlex
+import signal
+
+import pytest
+import volumes
+from kinds import VOLUME2
+from rescuing import Terminal, says
+from support import wait_until
+from volumes import PASS, PASS2, WRONG
+
+
+def test_key_file_that_is_wrong(rescue, disk2):
+    for name, content in {"newline": PASS + b"\n", "wrong": WRONG, "empty": b""}.items():
+        (rescue.folder / name).write_bytes(content)
+        ended = rescue("decrypt", disk2, "--key-file", name, "-o", "plain")
+        says(ended, "no key slot opens by this key file", status=2)
+        assert ("ends with a newline" in ended.message) == (name == "newline")
+        assert not (rescue.folder / "plain").exists() and not (rescue.folder / "plain.map").exists()
+
+
+def test_key_file_on_standard_input(rescue, disk2, kinds):
+    says(rescue("decrypt", disk2, "--key-file", "-", "-o", "plain", stdin=PASS2), status=0)
+    assert (rescue.folder / "plain").read_bytes() == kinds.text(VOLUME2)
+
+
+@pytest.mark.parametrize("name, status, text", [
+    ("missing", 4, "cannot open the key file: No such file or directory"), (".", 4, "Is a directory"),
+    ("long", 1, "key file is longer than 8388608 bytes")])
+def test_key_file_that_cannot_be(rescue, disk2, name, status, text):
+    with open(rescue.folder / "long", "wb") as file:
+        file.truncate((8 << 20) + 1)
+    says(rescue("decrypt", disk2, "--key-file", name, "-o", "plain"), text, status=status)
+
+
+def test_no_terminal(rescue, disk2):
+    says(rescue("decrypt", disk2, "-o", "plain"), "there is no terminal to ask for a passphrase at", status=1)
+
+
+def test_typed(rescue, disk2, kinds):
+    """It is not shown; two wrong ones leave no file."""
+    with Terminal(rescue, "decrypt", "disk.img", "-o", "plain") as terminal:
+        terminal.asked(1).type(WRONG + b"\n").until(rb"no key slot opens by this passphrase")
+        assert not (rescue.folder / "plain").exists()
+        terminal.asked(2).type(b"\n").asked(3).type(PASS + b"\n")
+        assert terminal.ended() == 0 and terminal.echoes()
+        assert PASS not in terminal.shown and WRONG not in terminal.shown
+    assert (rescue.folder / "plain").read_bytes() == kinds.text(VOLUME2)
+
+
+def test_three_wrong_ones(rescue, disk2):
+    with Terminal(rescue, "decrypt", "disk.img", "-o", "plain") as terminal:
+        for number in range(3):
+            terminal.asked(number + 1).type(WRONG + b"\n")
+        assert terminal.ended() == 2 and terminal.echoes()
+        assert terminal.shown.count(b"no key slot opens by this passphrase") == 3
+        assert b"Caps Lock" in terminal.shown and b"layout" in terminal.shown
+    assert not (rescue.folder / "plain").exists()
+
+
+def test_bytes_as_typed(rescue, disk2):
+    odd = b" \xff\xc3\xbc\\ $(id) '\" "
+    (rescue.folder / "odd").write_bytes(odd)
+    volumes.cryptsetup("luksAddKey --pbkdf pbkdf2 --pbkdf-force-iterations 1000 --key-file pass", disk2, "odd", cwd=rescue.folder)
+    with Terminal(rescue, "decrypt", "disk.img", "-o", "plain") as terminal:
+        terminal.asked().type(odd + b"\n")
+        assert terminal.ended() == 0, terminal.shown
+
+
+@pytest.mark.parametrize("number", [signal.SIGINT, signal.SIGTERM, signal.SIGHUP, signal.SIGQUIT])
+def test_signal_at_the_prompt(rescue, disk2, number):
+    with Terminal(rescue, "decrypt", "disk.img", "-o", "plain") as terminal:
+        terminal.asked().type(b"begun").signal(number)
+        assert terminal.ended() == (130 if number == signal.SIGINT else -number)
+        assert terminal.echoes() and b"Traceback" not in terminal.shown
+    assert not (rescue.folder / "plain").exists()
+
+
+def test_suspended_at_the_prompt(rescue, disk2):
+    """Ctrl-Z turns echo on, and it asks again afterwards."""
+    command = shlex.join(rescue.command("decrypt", "disk.img", "-o", "plain"))
+    rescue.command = lambda *words: ["bash", "--norc", "-mc", f"{command}; echo stopped; read -r _; fg >/dev/null"]
+    with Terminal(rescue) as terminal:
+        terminal.asked().type(b"begun\x1a").until(rb"stopped\r")
+        assert terminal.echoes()
+        terminal.type(b"\n").asked(2).type(PASS + b"\n")
+        assert terminal.ended() == 0, terminal.shown
+
+
+def test_end_of_input_at_the_prompt(rescue, disk2):
+    with Terminal(rescue, "decrypt", "disk.img", "-o", "plain") as terminal:
+        terminal.asked().type(b"\x04")
+        assert terminal.ended() == 1 and b"no passphrase was typed" in terminal.shown and terminal.echoes()
+
+
+def test_key_file_that_is_the_terminal(rescue, disk2):
+    with Terminal(rescue, "decrypt", "disk.img", "--key-file", "-", "-o", "plain") as terminal:
+        assert terminal.ended() == 1 and b"standard input is a terminal" in terminal.shown
+
+
+def test_passphrase_is_overwritten(rescue, disk2, tmp_path):
+    """Neither the passphrase that was typed nor that of a key file is in memory while the volume is decrypted."""
+    os.mkfifo(tmp_path / "fifo")
+    secret = b"long passphrase that is nowhere else"
+    (tmp_path / "key").write_bytes(secret)
+    volumes.cryptsetup("luksAddKey --pbkdf pbkdf2 --pbkdf-force-iterations 1000 --key-file pass", disk2, "key", cwd=tmp_path)
+    reading = os.open(tmp_path / "fifo", os.O_RDONLY | os.O_NONBLOCK)
+    writing = os.open(tmp_path / "fifo", os.O_WRONLY)
+    with Terminal(rescue, "decrypt", "disk.img", "-o", "-", stdout=writing) as terminal:
+        terminal.asked().type(secret + b"\n").until(rb"trying key slot")
+        wait_until(lambda: has_something(reading))
+        assert secret not in memory_of(terminal.process.pid)
+        while terminal.process.poll() is None:
+            has_something(reading)
+    os.close(reading)
+    os.close(writing)
+
+
+def has_something(descriptor):
+    try:
+        return os.read(descriptor, 65536)
+    except BlockingIOError:
+        return b""
+
+
+def memory_of(process):
+    """What is in the memory of a process."""
+    found = []
+    with open(f"/proc/{process}/maps", encoding="utf-8") as maps, open(f"/proc/{process}/mem", "rb", buffering=0) as memory:
+        for line in maps:
+            words = line.split()
+            start, end = (int(word, 16) for word in words[0].split("-"))
+            if "r" not in words[1] or line.rstrip().endswith(("[vvar]", "[vsyscall]")):
+                continue
+            memory.seek(start)
+            try:
+                found.append(memory.read(end - start))
+            except OSError:
+                continue
+    return b"".join(found)
