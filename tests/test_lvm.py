@@ -1,18 +1,22 @@
-"""luksrd-lvm finds logical volumes in physical volumes that LVM2's own tools make, plain and in a
-LUKS volume, at the places that lvs reports; nbdkit's filter `offset` gives a file system in one."""
+"""luksrd_lvm finds logical volumes in physical volumes that LVM2's own tools make, at the places
+that lvs reports, and `luksrd-rescue decrypt --lv` writes them out of a LUKS volume."""
 
 import os
+import pathlib
 import re
 import struct
+import sys
 import types
 import zlib
 
 import pytest
 import volumes
-from documents import example, programs
-from kinds import VOLUME1
-from support import NO_KEY, TOP, alone, expect, must, needs, run
+from rescuing import rescue  # noqa: F401
+from support import TOP, must
 from volumes import copy_of, overwrite
+
+sys.path.insert(0, str(TOP / "python"))
+import luksrd_lvm  # noqa: E402  pylint: disable=wrong-import-position
 
 MIB = 1 << 20
 AREA = 4096  # where the metadata area starts
@@ -24,29 +28,44 @@ SETUP = """pvcreate -q --metadatasize 32k --dataalignment 4k FIRST SECOND
 vgcreate -q -s 1M --setautoactivation n vg FIRST SECOND
 lvcreate -q -an -Zn -Wn -n root -l 8 vg FIRST
 lvcreate -q -an -Zn -Wn -n two -l 4 vg FIRST
-lvcreate -q -an -Zn -Wn -n swap.1-x -l 2 vg FIRST
 lvextend -q -l +1 vg/two FIRST
+lvcreate -q -an -Zn -Wn -n swap.1-x -l 2 vg FIRST
+lvextend -q -l +2 vg/two FIRST
 lvcreate -q -an -Zn -Wn -n far -l 4 vg SECOND
+lvcreate -q -an -Zn -Wn -n both -l 1 vg FIRST
+lvextend -q -l +1 vg/both SECOND
 lvcreate -q -an -Zn -Wn -n striped -l 4 vg -i 2"""
-SEGMENTS = "lv_name,segtype,seg_count,lv_size,seg_pe_ranges"
-DAMAGED = "luksrd-lvm: LVM2's metadata is damaged"
-TRUNCATED = "luksrd-lvm: the volume ends before LVM2's metadata does"
+NAMES = ["both", "far", "root", "striped", "swap.1-x", "two"]
+SEGMENTS = "lv_name,segtype,seg_size,seg_pe_ranges"
+FAR, STRIPED = "it is on another disk, in part or as a whole", "it has 2 stripes"
+DAMAGED = "LVM2's metadata is damaged"
+TRUNCATED = "the volume ends before LVM2's metadata does"
 
 
-@pytest.fixture
-def finds(tmp_path, monkeypatch):
-    """finds(ARGUMENT..) runs luksrd-lvm, which needs no library for a plain physical volume."""
-    for name, value in {"PYTHONPATH": str(TOP / "python"), "PYTHONDONTWRITEBYTECODE": "1",
-                        "LVM_SUPPRESS_FD_WARNINGS": "1"}.items():
-        monkeypatch.setenv(name, value)
-    return lambda *arguments: run(TOP / "scripts/luksrd-lvm", *arguments, cwd=tmp_path)
+class Plain:
+    """A file, as a physical volume."""
+
+    def __init__(self, path):
+        self.content = pathlib.Path(path).read_bytes()
+        self.size = len(self.content)
+
+    def pread_into(self, view, offset):
+        got = self.content[offset:offset + min(len(view), 700)]
+        view[:len(got)] = got
+        return len(got)
 
 
-@pytest.fixture
-def finds_in(finds, library, monkeypatch):
-    """The same in a LUKS volume."""
-    monkeypatch.setenv("LUKSRD_LIBRARY", str(library))
-    return finds
+def found_in(path):
+    """The pieces of each logical volume, or why it has none."""
+    return {name: found.refusal or found.pieces
+            for name, found in luksrd_lvm.logical_volumes(Plain(path)).items()}
+
+
+def refused(path):
+    """Why there are no logical volumes."""
+    with pytest.raises(luksrd_lvm.Refused) as info:
+        found_in(path)
+    return str(info.value)
 
 
 def metadata_place(image):
@@ -64,17 +83,18 @@ def wraps(image):
 
 
 def places(lvm, device):
-    """The linear volumes in one segment of this device, as luksrd-lvm has them, by lvs and pvs."""
+    """The logical volumes that are linear and on this device alone, with their pieces, by lvs."""
     start, size = map(int, lvm(f"pvs --noheadings --units b --nosuffix -o pe_start,vg_extent_size "
                                f"{device}").split())
-    found = []
-    for row in lvm(f"lvs --noheadings --units b --nosuffix -o {SEGMENTS} vg").splitlines():
-        name, kind, pieces, length, extents = row.split(None, 4)
+    found, elsewhere = {}, set()
+    for row in lvm(f"lvs --segments --noheadings --units b --nosuffix -o {SEGMENTS} vg").splitlines():
+        name, kind, length, extents = row.split(None, 3)
         on, _, extents = extents.partition(":")
-        if (kind, pieces, on) == ("linear", "1", device):
-            offset = start + int(extents.partition("-")[0]) * size
-            found.append(f"offset={offset} range={length} vg/{name}")
-    return sorted(found)
+        if (kind, on) != ("linear", device):
+            elsewhere.add(name)
+        place = start + int(extents.partition("-")[0]) * size
+        found.setdefault(f"vg/{name}", []).append((place, int(length)))
+    return {name: pieces for name, pieces in found.items() if name[3:] not in elsewhere}
 
 
 @pytest.fixture
@@ -97,9 +117,9 @@ def group(loop, cached, tmp_path):
         for line in SETUP.splitlines():
             lvm(line)
         names = lvm("lvs --noheadings -o lv_name vg").split()
-        assert sorted(names) == ["far", "root", "striped", "swap.1-x", "two"]
+        assert sorted(names) == NAMES
         for name, device in zip(("first", "second"), devices):
-            (folder / f"{name}.places").write_text("\n".join(places(lvm, device)))
+            (folder / f"{name}.places").write_text(repr(places(lvm, device)))
         copy_of(folder / "first", folder / "unwrapped")
         tags = (f"vgchange -q --addtag tag{number}{400 * 'x'} vg" for number in range(60))
         while not wraps(folder / "first"):
@@ -108,133 +128,131 @@ def group(loop, cached, tmp_path):
     folder = cached("lvm", make)
     return types.SimpleNamespace(
         first=folder / "unwrapped", wrapped=folder / "first", second=folder / "second",
-        places={name: (folder / f"{name}.places").read_text().splitlines()
-                for name in ("first", "second")})
-
-
-def found_by(ended):
-    """The places in the output, sorted, and the other lines."""
-    lines = sorted(ended.output.decode().splitlines())
-    assert ended.status == 0
-    return ([line for line in lines if line.startswith("offset=")],
-            [line for line in lines if not line.startswith("offset=")])
+        # pylint: disable-next=eval-used
+        places={name: eval((folder / f"{name}.places").read_text()) for name in ("first", "second")})
 
 
 # ---- without LVM2
 
-def test_no_physical_volume(finds_in, kinds):
-    expect(finds_in("--key-file", kinds / "pass", kinds / VOLUME1), "",
-           "luksrd-lvm: there is no physical volume of LVM2", 1)
+@pytest.mark.parametrize("length", [0, 511, 2047, 2048, 100000])
+def test_no_physical_volume(tmp_path, length):
+    (tmp_path / "plain").write_bytes(bytes(length))
+    assert refused(tmp_path / "plain") == (
+        TRUNCATED if length < 2048 else "there is no physical volume of LVM2")
 
 
-def test_wrong_passphrase(finds_in, kinds):
-    expect(finds_in("--key-file", kinds / "wrong", kinds / VOLUME1), "", NO_KEY, 2)
+def test_pieces():
+    plain = types.SimpleNamespace(pread_into=Plain("/dev/null").pread_into, size=0)
+    plain = Plain("/dev/null")
+    plain.content = bytes(range(100))
+    joined = luksrd_lvm.Pieces(plain, [(90, 10), (0, 5), (50, 1)])
+    assert joined.size == 16
+    wanted, got = bytes([*range(90, 100), *range(5), 50]), b""
+    while True:
+        view = memoryview(bytearray(7))
+        count = joined.pread_into(view, len(got))
+        if not count:
+            break
+        got += bytes(view[:count])
+    assert got == wanted
 
 
-def test_missing_image(finds):
-    ended = finds("absent")
-    assert ended.status == 1 and ended.message.endswith("absent'\n")
-
-
-@pytest.mark.parametrize("option", ["--key-slot 32", "--key-slot -1", "--max-iterations 0",
-                                    "--max-iterations 4294967296", "--key-slot x"])
-def test_wrong_arguments(finds, kinds, option):
-    assert finds("--key-file", kinds / "pass", *option.split(), kinds / VOLUME1).status == 2
+@pytest.mark.parametrize("options, message, status", [
+    (["--lv", "vg/root"], "there is no physical volume of LVM2", 1)])
+def test_no_lvm_in_the_volume(rescue, kinds, options, message, status):
+    ended = rescue("decrypt", kinds / "luks1 xts-plain64 512", "--key-file", kinds / "pass2", "--quiet",
+                   "-o", "out.img", *options)
+    assert (ended.status, message in ended.message) == (status, True), ended
 
 
 # ---- over loop devices
 
-by_lvm = [alone, needs("root", "loop", "lvm", "mke2fs")]
-NOT_SUPPORTED = ["vg/far is not supported: it is in another physical volume",
-                 "vg/striped is not supported: it has 2 stripes",
-                 "vg/two is not supported: it has 2 segments"]
-
-
+@pytest.mark.xdist_group("alone")
+@pytest.mark.needs("root", "loop", "lvm", "mke2fs")
 class TestGroup:
-    pytestmark = by_lvm
-
-    def test_places(self, finds, group):
-        assert len(group.places["first"]) == 2
+    def test_places(self, group):
         for image in (group.first, group.wrapped):
-            assert found_by(finds(image)) == (group.places["first"], NOT_SUPPORTED)
-        assert found_by(finds(group.second))[0] == group.places["second"]
+            found = found_in(image)
+            assert found == {**group.places["first"], "vg/far": FAR, "vg/both": FAR,
+                             "vg/striped": STRIPED}
+        # two of the three segments of this one touch
+        assert {name: len(pieces) for name, pieces in group.places["first"].items()} == {
+            "vg/root": 1, "vg/two": 2, "vg/swap.1-x": 1}
+        assert {name: pieces for name, pieces in found_in(group.second).items()
+                if not isinstance(pieces, str)} == group.places["second"]
+
+    @pytest.mark.parametrize("name", ["vg/root", "root", "/dev/vg/root"])
+    def test_names(self, group, name):
+        assert luksrd_lvm.find(Plain(group.first), name).pieces == group.places["first"]["vg/root"]
 
     @pytest.mark.parametrize("name, message", [
-        ("vg/two", "luksrd-lvm: vg/two is not supported: it has 2 segments"),
-        ("vg/none", "luksrd-lvm: there is no logical volume vg/none")])
-    def test_one_that_is_not_there(self, finds, group, name, message):
-        expect(finds(group.first, name), "", message, 1)
-
-    def test_one_alone(self, finds, group):
-        wanted = [place for place in group.places["first"] if place.endswith(" vg/root")]
-        expect(finds(group.first, "vg/root"), wanted[0].removesuffix(" vg/root") + "\n")
-
-    def test_examples(self, finds_in, group, luksrd, plugin, filter, tmp_path):
-        """In a LUKS volume, with a file system where lvs has the logical volume."""
-        place = next(place for place in group.places["first"] if place.endswith(" vg/root"))
-        offset, length = map(int, re.match(r"offset=(\d+) range=(\d+)", place).groups())
-        (tmp_path / "fstab").write_text("inside\n")
-        system = tmp_path / "system"
-        must("mke2fs", "-q", "-t", "ext4", system, f"{length >> 10}k")
-        must("debugfs", "-w", "-f", "-", system, stdin=b"mkdir etc\nwrite fstab etc/fstab\n",
-             cwd=tmp_path)
-        (tmp_path / "fstab").unlink()
-        physical = bytearray(group.first.read_bytes())
-        physical[offset:offset + length] = system.read_bytes()
-        volumes.luks1(tmp_path / "disk.img", "aes-xts-plain64", "sha256", 512)
-        volumes.fill1(tmp_path / "disk.img", bytes(physical))
-        path = programs(tmp_path / "programs", luksrd.path, plugin, filter)
-        (path / "luksrd-lvm").symlink_to(TOP / "scripts/luksrd-lvm")
-        texts = ["List the logical volumes", "Copy one file"]
-        script = "\n".join(line for text in texts for line in example("luksrd-lvm.1", text))
-        ended = run("bash", "-c", script, cwd=tmp_path,
-                    env=os.environ | {"PATH": f"{path}:{os.environ['PATH']}"})
-        listed = re.findall("^offset=.*", ended.output.decode(), re.MULTILINE)
-        assert sorted(listed) == group.places["first"]
-        assert (tmp_path / "root.img").read_bytes() == system.read_bytes()
-        assert (tmp_path / "fstab").read_text() == "inside\n"
+        ("vg/striped", f"vg/striped is not supported: {STRIPED}"),
+        ("far", f"vg/far is not supported: {FAR}"),
+        ("vg/none", "there is no logical volume 'vg/none'; there are: vg/both, vg/far, vg/root, "
+                    "vg/striped, vg/swap.1-x, vg/two")])
+    def test_one_that_is_not_there(self, group, name, message):
+        with pytest.raises(luksrd_lvm.Refused) as info:
+            luksrd_lvm.find(Plain(group.first), name)
+        assert str(info.value) == message
 
     @pytest.mark.parametrize("at", [512, 536, 552, 612, AREA, AREA + 4, AREA + 24, AREA + 40, "text"])
-    def test_damaged_byte(self, finds, group, tmp_path, at):
+    def test_damaged_byte(self, group, tmp_path, at):
         """Each of the first bytes matters, and none that is changed leads to an uncaught fault."""
         image = copy_of(group.wrapped, tmp_path / "image")
         at = AREA + metadata_place(image)[0] if at == "text" else at
         overwrite(image, at, bytes([image.read_bytes()[at] ^ 255]))
-        ended = finds(image)
-        assert (ended.status, ended.output) == (1, b"")
-        assert re.fullmatch("luksrd-lvm: .*LVM2.*\n", ended.message)
+        assert "LVM2" in refused(image)
 
-    def test_changed_lengths(self, finds, group, tmp_path):
-        said = finds(altered(group, tmp_path, "extent_count = 8", "extent_count = 9")).output
-        root = next(place for place in group.places["first"] if place.endswith(" vg/root"))
-        assert root.replace("range=8388608", "range=9437184") in said.decode().splitlines()
-        said = finds(altered(group, tmp_path, "extent_count = 8", "extent_count =99")).output
-        assert b"vg/root is not supported: it ends after the physical volume\n" in said
-        said = finds(altered(group, tmp_path, "root {", "0007 {")).output
-        assert root.replace("vg/root", "vg/0007") in said.decode().splitlines()
+    def test_changed_lengths(self, group, tmp_path):
+        (start, length), = group.places["first"]["vg/root"]
+        changed = found_in(altered(group, tmp_path, "extent_count = 8", "extent_count = 9"))
+        assert changed["vg/root"] == [(start, length + MIB)]
+        changed = found_in(altered(group, tmp_path, "extent_count = 8", "extent_count =99"))
+        assert changed["vg/root"] == "it ends after the physical volume"
+        changed = found_in(altered(group, tmp_path, "root {", "0007 {"))
+        assert changed["vg/0007"] == [(start, length)]
 
     @pytest.mark.parametrize("old, new", [
         ("extent_size = 2048", 'extent_size = "04"'), ("physical_volumes", "physical_volumex"),
         ("pe_start = 72", "pe_start = []"), ("logical_volumes {", "logical_volumes }"),
         ("segment_count = 1", "segment_count = {"), ('"VISIBLE"', '"VISIBLE('),
         ('striped"', 'stri\x1bed"'), ("segment_count = 2", 'segment_count="\x1b"'),
-        ("segment_count = 2", "segment_count = x"), ("root {", '"r\x1b" {'), ("root {", "ro\x1bt {")])
-    def test_damaged_metadata(self, finds, group, tmp_path, old, new):
-        expect(finds(altered(group, tmp_path, old, new)), "", DAMAGED, 1)
+        ("segment_count = 2", "segment_count = x"), ("root {", '"r\x1b" {'), ("root {", "ro\x1bt {"),
+        ("start_extent = 5", "start_extent = 6")])
+    def test_damaged_metadata(self, group, tmp_path, old, new):
+        assert refused(altered(group, tmp_path, old, new)) == DAMAGED
 
-    def test_not_kept_up_to_date(self, finds, group, tmp_path):
-        expect(finds(altered(group, tmp_path, "root", "root", flags=1)), "", "luksrd-lvm: the first "
-               "metadata area is not kept up to date: LVM2 uses another one", 1)
+    def test_not_kept_up_to_date(self, group, tmp_path):
+        assert refused(altered(group, tmp_path, "root", "root", flags=1)) == \
+            "the metadata area is not kept up to date: LVM2 uses another one"
 
-    def test_beyond_the_end(self, finds, group, tmp_path):
+    def test_beyond_the_end(self, group, tmp_path):
         image = copy_of(group.first, tmp_path / "image")
         label = bytearray(image.read_bytes()[512:1024])
         struct.pack_into("<Q", label, 32 + 40 + 32, 1 << 63)
         struct.pack_into("<I", label, 16, checksum(label[20:]))
         overwrite(image, 512, label)
-        expect(finds(image), "", TRUNCATED, 1)
+        assert refused(image) == TRUNCATED
         os.truncate(copy_of(group.first, image), 5000)
-        expect(finds(image), "", TRUNCATED, 1)
+        assert refused(image) == TRUNCATED
+
+    def test_decrypted_alone(self, rescue, group, tmp_path):
+        """Each of one or of several pieces, out of a LUKS volume; others are refused by name."""
+        physical = bytearray(group.first.read_bytes())
+        for name, pieces in group.places["first"].items():
+            for offset, length in pieces:
+                physical[offset:offset + length] = os.urandom(length)
+        volumes.luks1(tmp_path / "disk.img", "aes-xts-plain64", "sha256", 512)
+        volumes.fill1(tmp_path / "disk.img", bytes(physical))
+        for name, pieces in group.places["first"].items():
+            out = f"{name[3:]}.img"
+            ended = rescue("decrypt", "disk.img", "--key-file", "pass", "--quiet", "--lv", name, "-o", out)
+            assert ended.status == 0, ended
+            wanted = b"".join(physical[offset:offset + length] for offset, length in pieces)
+            assert (tmp_path / out).read_bytes() == wanted
+        ended = rescue("decrypt", "disk.img", "--key-file", "pass", "--quiet", "--lv", "striped", "-o", "no")
+        assert (ended.status, STRIPED in ended.message) == (1, True), ended
+        assert not (tmp_path / "no").exists()
 
 
 def checksum(content):

@@ -272,10 +272,11 @@ def of_file(path: str) -> Found:
 
 
 def _lines_for(read: Callable[[memoryview, int], int], length: int) -> list[dict[str, Any]]:
-    """luksrd-audit's lines for these bytes, of which it takes as many as it needs."""
+    """luksrd-audit's lines for these bytes, of which it takes as many as it needs. What `read`
+    raises is raised here, whatever it has found before."""
     with subprocess.Popen([tools.audit_program(), "-"], stdin=subprocess.PIPE,
                           stdout=subprocess.PIPE) as process:
-        failures: list[OSError] = []
+        failures: list[Exception] = []
         writer = threading.Thread(target=_feed, args=(process.stdin, read, length, failures))
         writer.start()
         try:
@@ -289,14 +290,14 @@ def _lines_for(read: Callable[[memoryview, int], int], length: int) -> list[dict
 
 
 def _feed(pipe, read: Callable[[memoryview, int], int], length: int,
-          failures: list[OSError]) -> None:
+          failures: list[Exception]) -> None:
     """Writes bytes into a pipe, until its reader has enough of them."""
     piece, done = memoryview(bytearray(PIECE)), 0
     try:
         while done < length:
             try:
                 got = read(piece[:min(PIECE, length - done)], done)
-            except OSError as error:
+            except Exception as error:  # pylint: disable=broad-exception-caught
                 failures.append(error)
                 break
             if not got:

@@ -12,9 +12,9 @@ from .image import open_image
 from .words import quoted
 
 EXAMPLES = """examples:
-  luksrd-rescue look laptop.img        what is in the image of a disk, and what to type next
-  luksrd-rescue look /dev/sdb          the same of a disk, as root
-  luksrd-rescue look --search disk.img search all of it for headers, whatever its table says
+  luksrd-rescue look laptop.img           what is in the image of a disk, and what to type next
+  luksrd-rescue look /dev/sdb             the same of a disk, as root
+  luksrd-rescue look --search disk.img    search all of it for headers, whatever its table says
   luksrd-rescue look --json *.img | jq -r .volumes[].uuid"""
 
 
@@ -238,6 +238,8 @@ def _facts_lines(volume: choosing.Volume, image_size: int) -> list[str]:
              *(f"slot {slot.number}: {slot.words}" for slot in facts.slots)]
     if not facts.slots:
         lines.append("no key slot is in use")
+    elif not any(slot.opens for slot in facts.slots):
+        lines.append("no key slot opens with a passphrase alone")
     if facts.fault and not volume.is_header_only:
         lines.append(f"cannot be decrypted: {facts.fault}")
     lines += [f"damaged: {words}" for words in facts.damage]
@@ -297,8 +299,11 @@ def _volume_steps(report: Report, volume: choosing.Volume, must_choose: bool) ->
 
 
 def _room() -> int:
-    """The bytes that are free in this folder."""
-    found = os.statvfs(".")
+    """The bytes that are free in this folder; many, if that is not known."""
+    try:
+        found = os.statvfs(".")
+    except OSError:
+        return 1 << 62
     return found.f_bavail * found.f_frsize
 
 

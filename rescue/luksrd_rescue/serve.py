@@ -157,7 +157,7 @@ class _Parameters:
     def _key(self, key_file: str) -> list[str]:
         if self._arguments.volume_key_file is None:
             return [f"key-file={key_file}", f"key-slot={self._opened.key_slot}"]
-        geometry = unlocking.geometry(self._arguments, self._volume.facts)
+        geometry = unlocking.geometry(self._arguments, self._volume.facts, self._image.path)
         named = {name.replace("_", "-"): value for name, value in geometry.items()
                  if value is not None}
         return [f"volume-key-file={key_file}",
