@@ -179,12 +179,12 @@ def areas_of(image):
             for number, slot in metadata(image)[0]["keyslots"].items()}
 
 
-@pytest.mark.parametrize("at", [0, 4096, 8191])
-def test_bad_sector_in_the_first_header(rescue, volume, kinds, bad_sectors, at):
-    """The second header is used."""
+@pytest.mark.parametrize("at, used", [(0, "secondary"), (4096, "secondary"), (15872, "primary")])
+def test_bad_sector_in_the_first_header(rescue, volume, kinds, bad_sectors, at, used):
+    """The second header is used, unless the sector has nothing but the zeros after the JSON text."""
     image = volume(VOLUME2)
-    ended = rescue("decrypt", "disk.img", "--key-file", "pass", "-o", "plain", env=bad_sectors(image, [(at, 1)]))
-    says(ended, "sectors of the header cannot be read; the secondary header is used", status=0)
+    ended = rescue("decrypt", "disk.img", "--key-file", "pass", "-o", "plain", env=bad_sectors(image, [(at, 512)]))
+    says(ended, f"sectors of the header cannot be read; the {used} header is used", status=0)
     assert (rescue.folder / "plain").read_bytes() == kinds.text(VOLUME2)
 
 
@@ -230,13 +230,13 @@ def test_bad_sectors_of_luks1(rescue, volume, kinds, bad_sectors):
     """The first sector has what all slots need. The second one has slot 7 and a part of slot 6."""
     image = volume(VOLUME1)
     volumes.cryptsetup("luksAddKey --key-file pass --pbkdf-force-iterations 1000 --key-slot 7", image, "wrong", cwd=rescue.folder)
-    says(rescue("decrypt", "disk.img", "--offset", "0", "--key-file", "pass", "-o", "x", env=bad_sectors(image, [(511, 1)])),
+    says(rescue("decrypt", "disk.img", "--offset", "0", "--key-file", "pass", "-o", "x", env=bad_sectors(image, [(0, 512)])),
          "the header cannot be read", status=6)
-    env = bad_sectors(image, [(512, 1)])
+    env = bad_sectors(image, [(512, 512)])
     says(rescue("decrypt", "disk.img", "--key-file", "wrong", "-o", "x", env=env), "sectors of the header cannot be read", status=2)
     for number, areas in enumerate(([], [(4096, 512)])):
         ended = rescue("decrypt", "disk.img", "--key-file", "pass2", "-o", f"plain{number}",
-                       env=bad_sectors(image, [(512, 1), *areas]))
+                       env=bad_sectors(image, [(512, 512), *areas]))
         says(ended, status=0)
         assert ("key slot 0 is left out" in ended.message) == bool(areas)
         assert (rescue.folder / f"plain{number}").read_bytes() == kinds.text(VOLUME1)

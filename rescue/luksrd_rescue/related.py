@@ -79,10 +79,11 @@ def are_related(one: os.stat_result, other: os.stat_result) -> bool:
     return first in below_second or second in below_first or bool(shared)
 
 
-def is_inside(file: os.stat_result, image: os.stat_result) -> bool:
-    """Whether a file is on a file system whose bytes are in the image."""
-    thing = _thing(image)
-    return stat.S_ISREG(file.st_mode) and thing in _below(_device(file.st_dev), with_disk=False)
+def is_inside(found: os.stat_result, image: os.stat_result) -> bool:
+    """Whether a file or a folder is on a file system whose bytes are in the image. (Another partition
+    of the same disk is not.)"""
+    is_on = stat.S_ISREG(found.st_mode) or stat.S_ISDIR(found.st_mode)
+    return is_on and _thing(image) in _below(_device(found.st_dev), with_disk=False)
 
 
 def mounted_on(number: int) -> list[str]:

@@ -169,7 +169,7 @@ class Target:
         if self.is_pipe:
             self._check_pipe(kept)
         elif self._found is None:
-            self._check_folder()
+            self._check_folder(kept)
         elif self.is_device:
             self._check_device(kept)
         else:
@@ -182,7 +182,7 @@ class Target:
             raise Refusal(USAGE, "-o -", "standard output is a terminal: redirect it, or name a file")
         self._refuse_kept(os.fstat(1), kept)
 
-    def _check_folder(self) -> None:
+    def _check_folder(self, kept: list[Kept]) -> None:
         folder = os.path.dirname(self.path) or "."
         if os.path.islink(self.path):
             raise Refusal(USAGE, self.path, "is a link to a file that is not there")
@@ -190,6 +190,7 @@ class Target:
             raise Refusal(USAGE, folder, "there is no such folder")
         if not os.access(folder, os.W_OK | os.X_OK):
             raise Refusal(USAGE, folder, "no file can be made in this folder: Permission denied")
+        self._refuse_kept(os.stat(folder), kept)
 
     def _check_file(self, kept: list[Kept]) -> None:
         if stat.S_ISDIR(self._found.st_mode):
