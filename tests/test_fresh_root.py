@@ -11,7 +11,8 @@ from support import TOP, alone, must, needs, run
 from test_packages import made  # noqa: F401
 
 pytestmark = [alone, needs("root", "debootstrap", "dh", "setpriv"), pytest.mark.timeout(3000)]
-PACKAGES = ["libluksrd-dev", "libluksrd2", "luksrd", "nbdkit-plugin-luksrd", "python3-luksrd"]
+PACKAGES = ["libluksrd-dev", "libluksrd2", "luksrd", "luksrd-audit", "luksrd-rescue", "nbdkit-plugin-luksrd",
+            "python3-luksrd"]
 TOOLS = ["gcc", "libc6-dev", "libnbd-bin", "make", "nbdkit", "nbdkit-plugin-dev", "pkg-config"]
 LIBRARIES = "/usr/lib/x86_64-linux-gnu"
 COPY = """import luksrd, shutil, sys
@@ -154,7 +155,9 @@ def test_a_fresh_system(root, sample):
     assert sorted(set(root.packages()) - set(had)) == sorted(here)
     assert root("readlink", "-f", "/usr/bin/luksrd").output == b"/usr/libexec/luksrd/x86-64-v2/luksrd\n"
     assert root.reads("luksrd luksCat --key-file sample/passphrase disk.img") == sample.plain
-    assert root.reads("luksrd-candidates sample/passphrase disk.img") == b"Line 1: Key slot 0 opens the volume.\n"
+    assert b"luksrd-rescue decrypt disk.img -o plain.img" in root.reads("luksrd-rescue look disk.img")
+    assert root.reads("luksrd-rescue try disk.img --candidates sample/passphrase").startswith(b"line 1 opens key slot 0\n")
+    assert root.reads("luksrd-rescue decrypt disk.img --key-file sample/passphrase --quiet -o - | cat") == sample.plain
     assert root.reads("python3 copy.py") == sample.plain
     for way in "", "-static":
         assert root.reads(f"gcc -D_GNU_SOURCE {way} -o it first.c $(pkg-config --cflags --libs luksrd) && ./it") == \

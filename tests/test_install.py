@@ -15,9 +15,7 @@ GUIDES = ["README.md", *(f"docs/{name}" for name in (
 # below PREFIX: what is installed, and what in the sources that is
 PROGRAM_FILES = {
     "bin/luksrd": None,
-    "bin/luksrd-candidates": "scripts/luksrd-candidates",
     "share/bash-completion/completions/luksrd": "completions/luksrd.bash",
-    "share/man/man1/luksrd-candidates.1": "docs/luksrd-candidates.1",
     "share/man/man1/luksrd.1": "docs/luksrd.1",
     "share/zsh/site-functions/_luksrd": "completions/_luksrd",
     **{f"share/doc/luksrd/{name}": None for name in GUIDES},
@@ -36,13 +34,19 @@ LIBRARY_PAGES = ["luksrd.3", *[f"luksrd_{name}.3" for name in FUNCTIONS]]
 LIBRARY_FILES = ["include/luksrd.h", "lib/glibc-hwcaps/x86-64-v3/libluksrd.so.2", "lib/libluksrd.a", "lib/libluksrd.so",
                  "lib/libluksrd.so.2", f"lib/libluksrd.so.{VERSION}", "lib/pkgconfig/luksrd.pc",
                  *[f"share/man/man3/{page}" for page in LIBRARY_PAGES]]
-MODULE_FILES = ["bin/luksrd-lvm", "share/man/man1/luksrd-lvm.1"]
 MODULE = "lib/python3/dist-packages/luksrd.py"
+RESCUE = sorted(path.name for path in (TOP / "rescue/luksrd_rescue").glob("*.py"))
+# those that need the library alone, and those that need luksrd-audit, too
+MODULE_FILES = ["lib/python3/dist-packages/luksrd_lvm.py"]
+RESCUE_FILES = ["bin/luksrd-rescue", "share/bash-completion/completions/luksrd-rescue", "share/man/man1/luksrd-rescue.1",
+                "share/zsh/site-functions/_luksrd-rescue",
+                *(f"lib/python3/dist-packages/luksrd_rescue/{name}" for name in RESCUE)]
 NBDKIT_PAGES = ["share/man/man1/nbdkit-luksrd-filter.1", "share/man/man1/nbdkit-luksrd-plugin.1"]
 UNIT = "lib/systemd/system/nbdkit-luksrd@.service"
 PLUGIN, FILTER = "nbdkit-luksrd-plugin.so", "nbdkit-luksrd-filter.so"
 OWN_NBDKIT = [f"lib/nbdkit/plugins/{PLUGIN}", f"lib/nbdkit/filters/{FILTER}"]
-ALL_FILES = [*PROGRAM_FILES, *AUDIT_FILES, *LIBRARY_FILES, *MODULE_FILES, MODULE, *NBDKIT_PAGES, *OWN_NBDKIT]
+ALL_FILES = [*PROGRAM_FILES, *AUDIT_FILES, *LIBRARY_FILES, *MODULE_FILES, MODULE, *RESCUE_FILES, *NBDKIT_PAGES,
+             *OWN_NBDKIT]
 
 
 def files_in(folder):
@@ -239,9 +243,9 @@ def test_below_a_destdir(make, make_program, tmp_path):
     folders = {"PLUGINS": "/usr/plugins", "FILTERS": "/usr/filters", "MODULES": "/usr/modules", "DESTDIR": there,
                "AUDIT": "absent"}
     assert make("install", **folders).status == 0
-    assert files_in(local) == sorted([*PROGRAM_FILES, *LIBRARY_FILES, *NBDKIT_PAGES, *MODULE_FILES, UNIT])
+    assert files_in(local) == sorted([*PROGRAM_FILES, *LIBRARY_FILES, *NBDKIT_PAGES, UNIT])
     assert files_in(there / "usr/plugins") + files_in(there / "usr/filters") == [PLUGIN, FILTER]
-    assert files_in(there / "usr/modules") == ["luksrd.py"]
+    assert files_in(there / "usr/modules") == ["luksrd.py", "luksrd_lvm.py"]
     for name, built in (f"lib/libluksrd.so.{VERSION}", "SHARED"), (LIBRARY_FILES[1], "SHARED_V3"):
         assert (local / name).read_bytes() == make.variables[built].read_bytes()
     assert make("uninstall", **folders).status == 0
@@ -313,7 +317,7 @@ def another_user(make, tmp_path, request):
         pytest.skip("only root can do this")
     place = pathlib.Path(must("mktemp", "-d").decode().strip())
     request.addfinalizer(lambda: shutil.rmtree(place))
-    for name in "c", "completions", "docs", "packaging", "python", "scripts":
+    for name in "c", "completions", "docs", "packaging", "python", "rescue":
         shutil.copytree(TOP / name, place / "tree" / name)
     for name in "Makefile", "README.md":
         shutil.copy(TOP / name, place / "tree")

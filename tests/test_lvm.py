@@ -11,7 +11,6 @@ import zlib
 
 import pytest
 import volumes
-from rescuing import rescue  # noqa: F401
 from support import TOP, must
 from volumes import copy_of, overwrite
 

@@ -8,7 +8,7 @@ import re
 import pytest
 from links import broken_links
 from support import TOP, alone, built, expect, must, needs, run, runs_v3
-from test_install import FILTER, GUIDES, LIBRARY_PAGES, PLUGIN, VERSION, Make, files_in
+from test_install import FILTER, GUIDES, LIBRARY_PAGES, PLUGIN, RESCUE, VERSION, Make, files_in
 
 pytestmark = [alone, needs("dh", "dh_python3", "chrpath", "lintian", "/usr/include/nbdkit-plugin.h")]
 LIBRARIES = "usr/lib/x86_64-linux-gnu"
@@ -16,17 +16,20 @@ V3 = "glibc-hwcaps/x86-64-v3/libluksrd.so.2"
 MODULES = "usr/lib/python3/dist-packages"
 # the files of each package besides three papers; those that are no plain files of mode 644 have their mode before them
 FILES = {
-    "luksrd": ["-rwxr-xr-x usr/bin/luksrd-candidates", "-rwxr-xr-x usr/libexec/luksrd/x86-64-v2/luksrd",
-               "-rwxr-xr-x usr/libexec/luksrd/x86-64-v3/luksrd", "usr/share/bash-completion/completions/luksrd",
+    "luksrd": ["-rwxr-xr-x usr/libexec/luksrd/x86-64-v2/luksrd", "-rwxr-xr-x usr/libexec/luksrd/x86-64-v3/luksrd",
+               "usr/share/bash-completion/completions/luksrd",
                *(f"usr/share/doc/luksrd/{name}" for name in GUIDES), "usr/share/lintian/overrides/luksrd",
-               "usr/share/man/man1/luksrd-candidates.1.gz", "usr/share/man/man1/luksrd.1.gz",
+               "usr/share/man/man1/luksrd.1.gz",
                "usr/share/zsh/vendor-completions/_luksrd"],
     "libluksrd2": [f"{LIBRARIES}/{V3}", f"{LIBRARIES}/libluksrd.so.{VERSION}",
                    f"lrwxrwxrwx {LIBRARIES}/libluksrd.so.2"],
     "libluksrd-dev": ["usr/include/luksrd.h", f"{LIBRARIES}/libluksrd.a", f"{LIBRARIES}/pkgconfig/luksrd.pc",
                       f"lrwxrwxrwx {LIBRARIES}/libluksrd.so",
                       *[f"usr/share/man/man3/{page}.gz" for page in LIBRARY_PAGES]],
-    "python3-luksrd": [f"{MODULES}/luksrd.py", "usr/share/man/man1/luksrd-lvm.1.gz", "-rwxr-xr-x usr/bin/luksrd-lvm"],
+    "python3-luksrd": [f"{MODULES}/luksrd.py", f"{MODULES}/luksrd_lvm.py"],
+    "luksrd-rescue": ["-rwxr-xr-x usr/bin/luksrd-rescue", "usr/share/bash-completion/completions/luksrd-rescue",
+                      "usr/share/man/man1/luksrd-rescue.1.gz", "usr/share/zsh/vendor-completions/_luksrd-rescue",
+                      *(f"{MODULES}/luksrd_rescue/{name}" for name in RESCUE)],
     "nbdkit-plugin-luksrd": [f"{LIBRARIES}/nbdkit/filters/{FILTER}", f"{LIBRARIES}/nbdkit/plugins/{PLUGIN}",
                              "usr/lib/systemd/system/nbdkit-luksrd@.service",
                              "usr/share/lintian/overrides/nbdkit-plugin-luksrd",
@@ -36,7 +39,12 @@ FILES = {
                      "usr/share/doc/luksrd-audit/AUDIT.md.gz", "usr/share/lintian/overrides/luksrd-audit",
                      "usr/share/man/man1/luksrd-audit.1.gz", "usr/share/zsh/vendor-completions/_luksrd-audit"],
 }
+OF_PYTHON = ["python3-luksrd", "luksrd-rescue"]
 DEPENDS = [
+    ("luksrd-rescue", "python3:any"),
+    ("luksrd-rescue", rf"python3-luksrd \(>= {VERSION}\)"),
+    ("luksrd-rescue", rf"luksrd-audit \(>= {VERSION}\)"),
+    ("luksrd-rescue", "util-linux"),
     ("luksrd", r"libc6 \(>= 2\.[0-9]+\)"),
     ("luksrd-audit", r"libc6 \(>= 2\.[0-9]+\)"),
     ("libluksrd-dev", rf"libluksrd2 \(= {VERSION}-1\)"),
@@ -81,7 +89,7 @@ def test_which_packages_are_made(made, tmp_path):
     """The same files make the same packages; what is not built is in none."""
     make, packages = made
     assert {name: path.name for name, path in packages.items()} == {
-        name: f"{name}_{VERSION}-1_{'all' if name.startswith('python3') else 'amd64'}.deb" for name in FILES}
+        name: f"{name}_{VERSION}-1_{'all' if name in OF_PYTHON else 'amd64'}.deb" for name in FILES}
     assert make("deb", DEBS=tmp_path / "again").status == 0
     for path in packages.values():
         assert path.read_bytes() == (tmp_path / "again" / path.name).read_bytes()

@@ -10,7 +10,6 @@ import pytest
 import volumes
 from disks import EFI, LINUX, LUKS, MIB, bitlocker, disk, file_system, raid, row
 from kinds import VOLUME1, VOLUME2
-from rescuing import bad_sectors, rescue  # noqa: F401
 from support import TOP, alone, must, needs, run
 from volumes import copy_of, cryptsetup, overwrite
 

@@ -84,8 +84,11 @@ def prepare_library() -> None:
 
 
 def nbdkit_filter() -> Optional[str]:
-    """nbdkit's filter `luksrd`: the file that is built in the sources or installed below PREFIX, or
-    its name if it is in nbdkit's own folder; None if it is in none of them."""
+    """nbdkit's filter `luksrd`: the file that LUKSRD_FILTER names, that is built in the sources, or
+    installed below PREFIX; or its name if it is in nbdkit's own folder; None if it is in none of
+    them."""
+    if os.environ.get("LUKSRD_FILTER"):
+        return os.environ["LUKSRD_FILTER"]
     name = "nbdkit-luksrd-filter.so"
     for place in (TREE and TREE / "out" / name, PREFIX and PREFIX / "lib/nbdkit/filters" / name):
         if place and place.exists():

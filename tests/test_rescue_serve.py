@@ -1,0 +1,253 @@
+"""luksrd-rescue serve: the plaintext as a file by nbdkit and nbdfuse, compared with the plaintext of volumes of all kinds; how it
+ends, what it leaves, and what it says if something is missing."""
+import contextlib
+import errno
+import os
+import re
+import signal
+import subprocess
+import sys
+import types
+
+import pytest
+import volumes
+from disks import LUKS, MIB, disk, row
+from kinds import ESSIV, KINDS, VOLUME1, VOLUME2, volume_key_options
+from rescuing import Terminal
+from support import TOP, needs, processes_of, run, wait_until
+from volumes import PASS, copy_of, overwrite
+
+pytestmark = needs("nbdkit", "nbdfuse", "fusermount3", "fuse")
+SERVED = [VOLUME1, VOLUME2, ESSIV, "of fixed size", "detached1", "detached2", "truncated inside a sector of 4096",
+          "luks2 xts-plain64 512 4096, further on"]
+READY = b"ends it."
+
+
+@pytest.fixture
+def serve(rescue, filter, tmp_path):
+    """serve(IMAGE, WORD..) serves the plaintext in the folder `plain` until the end of the block, and says what is printed."""
+    rescue.variables["LUKSRD_FILTER"] = str(filter)
+
+    @contextlib.contextmanager
+    def serves(image, *words, env=None, folder="plain", before=()):
+        printed = tmp_path / "printed"
+        with open(printed, "wb") as file:
+            process = rescue.start("serve", image, folder, *words, stdout=file, stderr=file, env=env, before=before)
+        served = types.SimpleNamespace(process=process, path=tmp_path / folder / "plain", folder=tmp_path / folder,
+                                       said=lambda: printed.read_text(errors="replace"))
+        try:
+            wait_until(lambda: READY in printed.read_bytes() or process.poll() is not None)
+            yield served
+            if process.poll() is None:
+                process.send_signal(signal.SIGINT)
+            served.status = process.wait(300)
+        finally:
+            if process.poll() is None:
+                process.terminate()
+                process.wait(300)
+        assert not os.path.ismount(tmp_path / folder)
+
+    return serves
+
+
+def key_words(image, kinds):
+    kind = KINDS[image]
+    return ["--key-file", kinds / kind.key, *(["--header", kinds / kind.header] if kind.header else [])]
+
+
+@pytest.mark.parametrize("image", SERVED)
+def test_kinds(serve, kinds, image):
+    text = kinds.text(image)
+    with serve(kinds / image, *key_words(image, kinds)) as served:
+        assert served.process.poll() is None, served.said()
+        assert served.path.read_bytes() == text
+        assert served.path.stat().st_mode & 0o222 == 0
+        with pytest.raises(OSError), open(served.path, "r+b"):
+            pass
+    assert served.status == 0
+    # (it was made for this)
+    assert not served.folder.exists()
+
+
+def test_by_the_volume_key(serve, kinds):
+    options = volume_key_options(VOLUME2, {})
+    words = ["--volume-key-file", kinds / options["volume_key_file"], "--payload-offset", str(options["payload_offset"]),
+             "--sector-size", str(options["sector_size"])]
+    with serve(kinds / f"{VOLUME2}.lost", "--offset", "0", *words) as served:
+        assert served.path.read_bytes() == kinds.text(VOLUME2)
+    with serve(kinds / VOLUME2, *words[:2]) as served:
+        assert served.path.read_bytes() == kinds.text(VOLUME2)
+
+
+def test_in_a_partition(serve, kinds, tmp_path):
+    content = (kinds / VOLUME2).read_bytes()
+    length = -(-len(content) // MIB) * MIB
+    disk(tmp_path / "disk", "gpt", [row(MIB, length, LUKS)], {MIB: content + os.urandom(length - len(content))})
+    for words in [], ["--partition", "1"], ["--offset", "1Mi", "--length", str(length)]:
+        with serve("disk", "--key-file", kinds / "pass", *words) as served:
+            plain = served.path.read_bytes()
+            assert len(plain) == length - kinds.start(VOLUME2)
+            assert plain[:len(kinds.text(VOLUME2))] == kinds.text(VOLUME2)
+    # the copy of the disk ends inside the partition
+    os.truncate(tmp_path / "disk", MIB + len(content))
+    with serve("disk", "--key-file", kinds / "pass") as served:
+        assert served.path.read_bytes() == kinds.text(VOLUME2)
+
+
+def test_a_map_of_the_image(serve, kinds, tmp_path):
+    """What it does not have is a read error, and no noise."""
+    image, start, text = kinds / VOLUME1, kinds.start(VOLUME1), kinds.text(VOLUME1)
+    size = image.stat().st_size
+    (tmp_path / "map").write_text("# Mapfile\n0x0 + 1\n"
+                                  f"0x0 0x{start + 8192:x} +\n0x{start + 8192:x} 0x1000 -\n"
+                                  f"0x{start + 12288:x} 0x{size - start - 12288:x} +\n")
+    with serve(image, "--key-file", kinds / "pass2", "--image-map", "map") as served:
+        with open(served.path, "rb", buffering=0) as file:
+            assert os.pread(file.fileno(), 8192, 0) == text[:8192]
+            with pytest.raises(OSError) as info:
+                os.pread(file.fileno(), 4096, 8192)
+            assert info.value.errno == errno.EIO
+            assert os.pread(file.fileno(), 4096, 1 << 17) == text[1 << 17:(1 << 17) + 4096]
+
+
+def test_a_bad_sector_in_the_header(serve, kinds, bad_sectors, tmp_path):
+    """The other header is used, by nbdkit too."""
+    image = copy_of(kinds / VOLUME2, tmp_path / "disk.img")
+    with serve("disk.img", "--key-file", kinds / "pass", env=bad_sectors(image, [(4096, 512)])) as served:
+        assert served.process.poll() is None, served.said()
+        assert served.path.read_bytes() == kinds.text(VOLUME2)
+
+
+@pytest.mark.parametrize("how", ["umount", "fusermount3", signal.SIGINT, signal.SIGTERM, signal.SIGHUP])
+def test_ends(serve, kinds, tmp_path, how):
+    """Nothing stays: no mount, no process, and no folder that it made."""
+    (tmp_path / "there").mkdir()
+    for folder in "there", "new":
+        with serve(kinds / VOLUME1, "--key-file", kinds / "pass2", folder=folder) as served:
+            if how == "umount" and os.geteuid() == 0:
+                assert run("umount", served.folder).status == 0
+            elif isinstance(how, str):
+                assert run("fusermount3", "-u", served.folder).status == 0
+            else:
+                served.process.send_signal(how)
+            assert served.process.wait(300) == 0
+        wait_until(lambda: not processes_of(tmp_path))
+    assert ((tmp_path / "there").exists(), (tmp_path / "new").exists()) == (True, False)
+
+
+def test_in_use(serve, kinds):
+    """Ctrl-C says so; the second one ends it all the same."""
+    with serve(kinds / VOLUME1, "--key-file", kinds / "pass2") as served:
+        with open(served.path, "rb") as file:
+            served.process.send_signal(signal.SIGINT)
+            wait_until(lambda: "plain: is in use" in served.said())
+            assert file.read(512) == kinds.text(VOLUME1)[:512]
+            served.process.send_signal(signal.SIGINT)
+            wait_until(lambda: not os.path.ismount(served.folder))
+        assert served.process.wait(300) == 0
+
+
+def test_what_is_printed(serve, rescue, kinds, tmp_path):
+    """What is in it, and what to type next."""
+    with serve(kinds / VOLUME1, "--key-file", kinds / "pass2") as served:
+        said = served.said()
+    assert "plain/plain is nothing that blkid knows" in said
+    assert "Ctrl-C here, or umount plain elsewhere, ends it.\n" in said
+
+
+# ---- the passphrase
+
+def test_typed(rescue, filter, kinds, tmp_path):
+    """It is asked for; a wrong one costs a line. Ctrl-C at the terminal ends it."""
+    rescue.variables["LUKSRD_FILTER"] = str(filter)
+    with Terminal(rescue, "serve", kinds / VOLUME1, "plain") as terminal:
+        terminal.asked().type(b"wrong\n").asked(2).type(PASS + b"\n").until(re.escape(READY))
+        assert PASS not in terminal.shown
+        assert (tmp_path / "plain/plain").read_bytes() == kinds.text(VOLUME1)
+        terminal.type(b"\x03")
+        assert terminal.ended() == 0
+    assert not (tmp_path / "plain").exists()
+
+
+def test_wrong_passphrases(rescue, filter, kinds, tmp_path):
+    rescue.variables["LUKSRD_FILTER"] = str(filter)
+    ended = rescue("serve", kinds / VOLUME1, "plain", "--key-file", kinds / "wrong")
+    assert (ended.status, ended.output) == (2, b"")
+    assert "no key slot opens by this key file" in ended.message
+    assert not (tmp_path / "plain").exists()
+
+
+@needs("strace")
+def test_where_the_passphrase_goes(serve, kinds, tmp_path):
+    """Through a pipe, and into no argument; nbdkit derives the key of the slot that has opened alone."""
+    with serve(kinds / VOLUME1, "--key-file", kinds / "pass2", before=[
+            "strace", "-f", "-qq", "-s", "2000", "-e", "trace=execve,write", "-o", "calls"]) as served:
+        # strace does not pass signals on
+        run("fusermount3", "-u", served.folder)
+        served.process.wait(300)
+    calls = (tmp_path / "calls").read_text(errors="replace").splitlines()
+    runs = [line for line in calls if "execve(" in line and "nbdkit" in line and line.endswith("= 0")]
+    assert runs and all("key-file=/dev/fd/" in line and "key-slot=5" in line for line in runs)
+    assert [line for line in calls if "execve(" in line and "another one" in line] == []
+    assert len([line for line in calls if "write(" in line and '"another one"' in line]) == 1
+
+
+# ---- refusals
+
+@pytest.mark.parametrize("missing, message", [
+    ("nbdkit", "nbdkit: is not installed: run apt-get install nbdkit"),
+    ("nbdfuse", "nbdfuse: is not installed: run apt-get install libnbd-bin"),
+    ("fusermount3", "fusermount3: is not installed: run apt-get install fuse3")])
+def test_a_missing_program(rescue, kinds, tmp_path, missing, message):
+    script = ("import sys; sys.path.insert(0, sys.argv.pop(1)); from luksrd_rescue import tools, command; "
+              "found = tools.found; tools.found = lambda name: None if name == sys.argv[1] else found(name); "
+              "sys.exit(command.main(sys.argv[2:]))")
+    ended = run(sys.executable, "-c", script, TOP / "rescue", missing, "serve", kinds / VOLUME1, "plain",
+                env=rescue.variables, cwd=tmp_path)
+    assert ended == (1, b"", f"luksrd-rescue: {message}\n")
+    assert not (tmp_path / "plain").exists()
+
+
+def test_no_filter(rescue, kinds):
+    script = ("import sys; sys.path.insert(0, sys.argv.pop(1)); from luksrd_rescue import tools, command; "
+              "tools.nbdkit_filter = lambda: None; sys.exit(command.main(sys.argv[1:]))")
+    ended = run(sys.executable, "-c", script, TOP / "rescue", "serve", kinds / VOLUME1, "plain", env=rescue.variables)
+    assert ended == (1, b"", "luksrd-rescue: nbdkit: luksrd's filter is not installed: run apt-get install "
+                     "nbdkit-plugin-luksrd, or make nbdkit in the sources\n")
+
+
+@pytest.mark.parametrize("make, message", [
+    (lambda path: (path.mkdir(), (path / "x").touch()), "plain: is not empty"),
+    (lambda path: path.touch(), "plain: Not a directory")])
+def test_folders(rescue, filter, kinds, tmp_path, make, message):
+    rescue.variables["LUKSRD_FILTER"] = str(filter)
+    make(tmp_path / "plain")
+    ended = rescue("serve", kinds / VOLUME1, "plain", "--key-file", kinds / "pass2")
+    assert (ended.status, ended.output) == (1, b"")
+    assert ended.message.startswith(f"luksrd-rescue: {message}"), ended
+
+
+def test_a_folder_that_is_served(serve, rescue, kinds):
+    with serve(kinds / VOLUME1, "--key-file", kinds / "pass2") as served:
+        ended = rescue("serve", kinds / VOLUME1, "plain", "--key-file", kinds / "pass2")
+        assert ended == (1, b"", "luksrd-rescue: plain: something is mounted there: umount plain\n")
+        assert served.path.read_bytes() == kinds.text(VOLUME1)
+
+
+def test_a_server_that_does_not_begin(rescue, kinds, tmp_path):
+    """What nbdkit says is shown, and nothing stays."""
+    (tmp_path / "filter.so").write_bytes(b"no filter")
+    ended = rescue("serve", kinds / VOLUME1, "plain", "--key-file", kinds / "pass2",
+                   env={"LUKSRD_FILTER": str(tmp_path / "filter.so")})
+    assert (ended.status, ended.output) == (6, b"")
+    assert "luksrd-rescue: nbdkit: cannot serve the volume: " in ended.message and "filter.so" in ended.message
+    assert not (tmp_path / "plain").exists()
+
+
+@pytest.mark.of_script
+@pytest.mark.parametrize("words", [["disk"], [], ["disk", "plain", "--key-slot", "32"],
+                                   ["disk", "plain", "--key-file", "a", "--volume-key-file", "b"]])
+def test_wrong_arguments(rescue, words):
+    ended = rescue("serve", *words)
+    assert (ended.status, ended.output) == (1, b"")
+    assert ended.message.startswith("usage: luksrd-rescue serve")
