@@ -207,3 +207,56 @@ def test_what_zsh_offers_for_the_audit(audit_options):
 @pytest.mark.parametrize("name", ["_luksrd", "_luksrd-audit"])
 def test_zsh_reads_the_file(name):
     assert run("zsh", "-n", COMPLETIONS / name) == (0, b"", "")
+
+
+# luksrd-rescue
+
+RESCUE = TOP / "rescue/luksrd-rescue"
+RESCUE_ANSWERS = r"""
+compopt() { echo files; }
+. "$1"
+shift
+COMP_WORDS=("$@") COMP_CWORD=$(($# - 1))
+_luksrd_rescue
+printf "%s\n" "${COMPREPLY[@]}"
+"""
+
+
+def rescue_options(*words):
+    """The long options that the help lists."""
+    shown = must("/usr/bin/python3", RESCUE, *words, "--help").decode()
+    return sorted(set(re.findall(r"(?<=[ \[|])--[a-z][a-z-]*", shown.partition("\nexamples:")[0])))
+
+
+def rescue_offers(*words):
+    """What bash offers at the end of these words."""
+    offered = must("bash", "--norc", "--noprofile", "-c", RESCUE_ANSWERS, "bash", COMPLETIONS / "luksrd-rescue.bash",
+                   "luksrd-rescue", *words, env=AS_BYTES)
+    return sorted(offered.decode().split())
+
+
+@pytest.mark.parametrize("command", ["look", "decrypt", "try", "serve"])
+def test_options_of_luksrd_rescue(command):
+    """Of each command all options of the help, by bash and by zsh, and no other."""
+    wanted = rescue_options(command)
+    assert len(wanted) > 2
+    assert rescue_offers(command, "disk.img", "--") == wanted
+    text = (COMPLETIONS / "_luksrd-rescue").read_text()
+    groups = dict(re.findall(r"^    (choice|key)=\((.*?)^    \)", text, re.MULTILINE | re.DOTALL))
+    part = re.search(rf"^    {command}\)(.*?);;", text, re.MULTILINE | re.DOTALL)[1]
+    part += "".join(groups[name] for name in re.findall(r"\$(choice|key)\b", part))
+    found = set(re.findall(r"(?<=['{,)])--[a-z][a-z-]*", part)) | ({"--output"} if "--output" in part else set())
+    assert sorted(found) == wanted
+
+
+@pytest.mark.parametrize("words, offers", [
+    ([""], ["decrypt", "look", "serve", "try"]), (["--"], ["--help", "--version"]), (["look", ""], ["files"]),
+    (["serve", "disk.img", "--sector-size", ""], ["1024", "2048", "4096", "512"]),
+    (["decrypt", "--partition", ""], []), (["decrypt", "--key-file", "="], ["files"])])
+def test_words_of_luksrd_rescue(words, offers):
+    assert rescue_offers(*words) == offers
+
+
+@needs("zsh")
+def test_zsh_reads_the_file_for_luksrd_rescue():
+    assert run("zsh", "-n", COMPLETIONS / "_luksrd-rescue") == (0, b"", "")

@@ -204,18 +204,17 @@ def test_candidates_that_cannot_be_opened(tries, file, message):
     assert tries(lines=file) == (4, b"", f"luksrd-rescue: {file}: {message}\n")
 
 
-def test_candidates_that_cannot_be_read(tries, bad_sectors, tmp_path):
-    """Lines before that are tried."""
-    (tmp_path / "many").write_bytes(b"wrong\n" * 200 + bytes(1 << 20))
+def test_candidates_that_cannot_be_read(tries):
+    """A file, and a pipe or what else has no length."""
     ended = tries(lines="/proc/self/mem")
-    assert (ended.status, ended.output) == (4, b"")
-    assert re.fullmatch("luksrd-rescue: /proc/self/mem: (read failed after line 0|cannot read): .*\n", ended.message), ended
+    assert ended == (4, b"", "luksrd-rescue: /proc/self/mem: read failed: Input/output error\n")
 
 
 def test_an_output_that_fails(tries, tmp_path):
     """The state still has the lines that are done."""
     ended = tries("--state", "state", stdout=FULL)
-    assert (ended.status, ended.message) == (6, "luksrd-rescue: No space left on device\n") or ended.status == 6, ended
+    assert (ended.status, ended.message) == (6, "luksrd-rescue: standard output: write failed: No space left on device; "
+                                             "line 4 opens key slot 0\n")
     assert state_of(tmp_path / "state") <= 3
 
 

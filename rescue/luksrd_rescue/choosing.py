@@ -3,7 +3,7 @@
 import argparse
 from typing import NamedTuple, Optional
 
-from . import audit, partitions
+from . import audit, partitions, terminal
 from .command import Refusal, number, shown, sized
 from .words import quoted
 
@@ -52,10 +52,11 @@ def words_of(arguments: argparse.Namespace) -> str:
 
 def find_volumes(image, partition: Optional[int] = None, offset: Optional[int] = None,
                  length: Optional[int] = None, header: Optional[str] = None,
-                 progress=None) -> list[Volume]:
+                 is_quiet: bool = False) -> list[Volume]:
     """The volumes of an image that have a header, or the one that is named, even if it has none.
 
-    Of a disk without a partition table the headers are searched for, which reads all of it."""
+    On a disk without a partition table headers are searched for, which reads all of it, with
+    progress."""
     facts = audit.of_file(header) if header is not None else None
     if partition is not None:
         if offset is not None or length is not None:
@@ -72,12 +73,13 @@ def find_volumes(image, partition: Optional[int] = None, offset: Optional[int] =
     if table:
         found = [_in_partition(image, each, None) for each in table if not each.is_extended]
         return [volume for volume in found if volume.facts]
-    return searched(image, audit.search(image, progress).headers)
+    with terminal.Progress(image.size, "B", is_quiet) as progress:
+        return searched(image, audit.search(image, progress).headers)
 
 
 def searched(image, headers: list[audit.Found]) -> list[Volume]:
-    """The volumes with these headers. Where they end is unknown: at the end of the image, or before
-    the next one that is not inside the payload."""
+    """The volumes with these headers. Where they end is unknown: each goes on to the end of the
+    image."""
     return [Volume(found.offset, image.size - found.offset, None, found) for found in headers]
 
 
@@ -117,10 +119,10 @@ def _with_header(image, facts: audit.Found) -> Volume:
     return Volume(0, image.size, None, facts)
 
 
-def choose(image, arguments: argparse.Namespace, progress=None) -> Volume:
+def choose(image, arguments: argparse.Namespace) -> Volume:
     """The volume that the options name, or the only one. Several are listed, and refused."""
     volumes = find_volumes(image, arguments.partition, arguments.offset, arguments.length,
-                           arguments.header, progress)
+                           arguments.header, getattr(arguments, "quiet", False))
     if not volumes:
         raise Refusal(4, image.path, "no LUKS header was found; see what is there: "
                       f"luksrd-rescue look {quoted(image.path)}")

@@ -27,8 +27,6 @@ EXAMPLES = """examples:
 FILE = "plain"
 # How often the state of the children is looked at, in seconds
 WAIT_SECONDS = 0.1
-# How long nbdfuse may take to end after it was unmounted
-END_SECONDS = 30
 FUSE_CONFIG = "/etc/fuse.conf"
 ENDING = (signal.SIGINT, signal.SIGTERM, signal.SIGHUP)
 
@@ -215,7 +213,7 @@ class _Server:
         path = os.path.join(self._folder, FILE)
         while not os.path.exists(path):
             if self._process.poll() is not None:
-                raise Refusal(FAILED, "nbdkit", self._complaint())
+                raise Refusal(FAILED, "nbdkit", f"cannot serve the volume: {self._complaint()}")
             if self._signals:
                 raise KeyboardInterrupt
             time.sleep(WAIT_SECONDS)
@@ -224,7 +222,7 @@ class _Server:
         """What the two have said."""
         self._said.seek(0)
         said = self._said.read().decode(errors="backslashreplace").strip()
-        return f"cannot serve the volume: {said or 'it ended without a message'}"
+        return said or "it ended without a message"
 
     def wait(self) -> int:
         """Waits for Ctrl-C, or until somebody else unmounts it."""
@@ -239,7 +237,9 @@ class _Server:
                     "and press Ctrl-C again")
             time.sleep(WAIT_SECONDS)
         status = self._process.wait()
-        return 0 if status == 0 else FAILED
+        if status:
+            say("nbdfuse", f"ended with status {status}: {self._complaint()}")
+        return FAILED if status else 0
 
     def _unmount(self, even_if_used: bool) -> bool:
         """Unmounts it; whether it is no longer there for new users."""
@@ -252,15 +252,13 @@ class _Server:
         """Leaves nothing mounted, whatever happened."""
         if self._process is None or self._process.poll() is not None:
             return
-        end = time.monotonic() + END_SECONDS
-        while self._process.poll() is None and time.monotonic() < end:
-            self._unmount(True)
+        while self._process.poll() is None:
+            if not self._unmount(True) and not os.path.ismount(self._folder):
+                # (it has not got as far as a mount)
+                os.killpg(self._process.pid, signal.SIGTERM)
             with contextlib.suppress(subprocess.TimeoutExpired):
                 self._process.wait(WAIT_SECONDS)
-        if self._process.poll() is None:
-            # (it never got as far as a mount)
-            os.killpg(self._process.pid, signal.SIGTERM)
-            self._process.wait()
+        self._unmount(True)
 
 
 def _write(descriptor: int, secret: bytearray) -> None:

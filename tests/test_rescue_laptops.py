@@ -1,0 +1,249 @@
+"""Three laptops, whose disks are looked at, decrypted, tried and served by the commands that luksrd-rescue prints: GPT with LUKS2,
+LVM and ext4; MBR with LUKS1 and ext4; and a whole disk of LUKS2 with XFS and forty bad sectors. In each way at most four
+commands lead to the files. The plaintext is what was encrypted."""
+import os
+import re
+import shlex
+import signal
+import types
+
+import pytest
+import volumes
+from disks import EFI, LUKS, MIB, disk, file_system, row
+from documents import document, recipe
+from rescuing import Terminal
+from support import alone, must, namespace, needs, run, wait_until
+from volumes import PASS, copy_of, cryptsetup, luks1, passphrases
+
+pytestmark = needs("partx", "sfdisk", "cryptsetup", "mke2fs")
+FSTAB = b"/dev/vg0/root / ext4 defaults 0 1\n"
+KDFS = {"pbkdf2": "--pbkdf pbkdf2 --pbkdf-force-iterations 1000",
+        "argon2id": "--pbkdf argon2id --pbkdf-force-iterations 4 --pbkdf-memory 65536 --pbkdf-parallel 1"}
+NO_ARGON2 = "this version of luksrd does not derive keys by Argon2id"
+SECTOR = 512
+
+
+def with_fstab(folder, kind, length):
+    """A file system with etc/fstab."""
+    (folder / "files/etc").mkdir(parents=True, exist_ok=True)
+    (folder / "files/etc/fstab").write_bytes(FSTAB)
+    if kind != "xfs":
+        return file_system(folder / "fs", kind, length, "rootfs", folder / "files")
+    (folder / "prototype").write_text("/\n0 0\nd--755 0 0\netc d--755 0 0\nfstab ---644 0 0 files/etc/fstab\n$\n$\n")
+    (folder / "fs").touch()
+    os.truncate(folder / "fs", length)
+    must("mkfs.xfs", "-q", "--unsupported", "-L", "rootfs", "-p", "prototype", "fs", cwd=folder)
+    return (folder / "fs").read_bytes()
+
+
+def encrypted(path, plain, kdf):
+    """LUKS2 over these bytes, which PASS opens."""
+    passphrases(path.parent)
+    path.write_bytes(plain + bytes(16 * MIB))
+    cryptsetup(f"reencrypt --encrypt --type luks2 --reduce-device-size 16M --force-offline-reencrypt --key-file pass "
+               f"{KDFS[kdf]}", path, cwd=path.parent)
+    return path.read_bytes()
+
+
+def physical_volume(folder, loop, root, swap_length):
+    """A physical volume of LVM2 with a logical volume of swap space and one with this file system, in two pieces."""
+    path = folder / "physical"
+    path.touch()
+    os.truncate(path, 4 * MIB + len(root) + swap_length)
+    device = loop(path)
+    config = f"""devices {{ filter = ["a|^{device}$|", "r|.*|"] use_devicesfile = 0 }} global {{ locking_dir = "{folder}" }}
+        activation {{ udev_sync = 0 udev_rules = 0 }} backup {{ backup = 0 archive = 0 }}"""
+
+    def lvm(line):
+        command, *words = line.split()
+        return must("lvm", command, "--driverloaded", "n", "--config", config, *words).decode()
+
+    first = len(root) // MIB - 4
+    for line in (f"pvcreate -q {device}", f"vgcreate -q -s 1M --setautoactivation n vg0 {device}",
+                 f"lvcreate -q -an -Zn -Wn -n root -l {first} vg0",
+                 f"lvcreate -q -an -Zn -Wn -n swap -l {swap_length // MIB} vg0", "lvextend -q -l +4 vg0/root"):
+        lvm(line)
+    start = int(lvm(f"pvs --noheadings --units b --nosuffix -o pe_start {device}"))
+    content = bytearray(path.read_bytes())
+    done = 0
+    for line in lvm("lvs --segments --noheadings --units b --nosuffix -o seg_size,seg_pe_ranges vg0/root").splitlines():
+        length, extents = line.split()
+        place = start + int(extents.partition(":")[2].partition("-")[0]) * MIB
+        content[place:place + int(length)] = root[done:done + int(length)]
+        done += int(length)
+    assert done == len(root)
+    return bytes(content)
+
+
+def first_laptop(folder, loop, kdf):
+    """GPT, LUKS2, LVM, ext4."""
+    plain = physical_volume(folder, loop, with_fstab(folder, "ext4", 12 * MIB), 2 * MIB)
+    content = encrypted(folder / "volume", plain, kdf)
+    disk(folder / "laptop.img", "gpt", [row(MIB, 2 * MIB, EFI), row(3 * MIB, len(content), LUKS)],
+         {MIB: file_system(folder / "efi", "vfat", 2 * MIB, "ESP"), 3 * MIB: content})
+    return plain
+
+
+def second_laptop(folder, _, __):
+    """MBR, LUKS1, ext4."""
+    plain = with_fstab(folder, "ext4", 8 * MIB)
+    luks1(folder / "volume", "aes-xts-plain64", "sha256", 512)
+    volumes.fill1(folder / "volume", plain)
+    content = (folder / "volume").read_bytes()
+    length = -(-len(content) // SECTOR) * SECTOR
+    disk(folder / "laptop.img", "dos", [row(MIB, MIB, "7"), row(2 * MIB, length, "83")], {2 * MIB: content})
+    return plain
+
+
+def third_laptop(folder, _, __):
+    """A whole disk of LUKS2, XFS."""
+    plain = with_fstab(folder, "xfs", 16 * MIB)
+    encrypted(folder / "laptop.img", plain, "pbkdf2")
+    return plain
+
+
+LAPTOPS = {
+    "GPT, LUKS2 pbkdf2, LVM, ext4": (first_laptop, "pbkdf2", "vg0/root"),
+    "GPT, LUKS2 argon2id, LVM, ext4": (first_laptop, "argon2id", "vg0/root"),
+    "MBR, LUKS1, ext4": (second_laptop, "pbkdf2", ""),
+    "LUKS2, XFS": (third_laptop, "pbkdf2", ""),
+}
+
+
+@pytest.fixture(params=LAPTOPS)
+def laptop(request, rescue, loop, cached, tmp_path):
+    """The folder with laptop.img, in which commands run, and what was encrypted."""
+    make, kdf, logical = LAPTOPS[request.param]
+
+    def build(folder):
+        folder.mkdir()
+        (folder / "plain").write_bytes(make(folder, loop, kdf))
+
+    folder = cached(re.sub(r"\W+", "-", request.param), build)
+    copy_of(folder / "laptop.img", tmp_path / "laptop.img")
+    shown = must(*rescue.command("look", "laptop.img"), env=rescue.variables, cwd=tmp_path).decode()
+    if NO_ARGON2 in shown:
+        pytest.skip(NO_ARGON2)
+    return types.SimpleNamespace(
+        folder=tmp_path, plain=(folder / "plain").read_bytes(), shown=shown, logical=logical,
+        root=(folder / "fs").read_bytes() if make is third_laptop else None, is_third=make is third_laptop)
+
+
+pytestmark = [pytestmark, alone, needs("root", "loop", "lvm", "mkfs.xfs", "mkfs.vfat")]
+
+
+def command(text, name):
+    """The arguments of the first command of luksrd-rescue with this name in a text."""
+    return shlex.split(re.search(rf"^ *luksrd-rescue ({name} .*)$", text, re.MULTILINE)[1])
+
+
+def mounts(text, folder):
+    """What etc/fstab has, by the first command in a text that mounts something."""
+    line = re.search(r"^ *(mount -o .*)$", text, re.MULTILINE)[1]
+    ended = run(*namespace(), "sh", "-c", f"mount -t tmpfs none /mnt && {line} && cat /mnt/etc/fstab", cwd=folder)
+    if ended.status and "unknown filesystem type" in ended.message:
+        pytest.skip("this kernel has no such file system")
+    assert ended == (0, FSTAB, ""), (line, ended)
+
+
+def typed(rescue, words, **how):
+    """What a command shows at a terminal at which the passphrase is typed."""
+    with Terminal(rescue, *words, **how) as terminal:
+        terminal.asked().type(PASS + b"\n")
+        return terminal.ended(), terminal.shown.decode().replace("\r\n", "\n")
+
+
+@needs("mount")
+def test_decrypted(rescue, laptop):
+    """look, decrypt, mount; or for a logical volume in two pieces look, decrypt, decrypt --lv, mount."""
+    status, shown = typed(rescue, command(laptop.shown, "decrypt"))
+    assert status == 0, shown
+    assert (laptop.folder / "plain.img").read_bytes()[:len(laptop.plain)] == laptop.plain
+    if not laptop.logical:
+        mounts(shown, laptop.folder)
+        return
+    words = command(shown, "decrypt")
+    assert words[-4:-2] == ["--lv", laptop.logical]
+    status, shown = typed(rescue, words)
+    assert status == 0, shown
+    mounts(shown, laptop.folder)
+
+
+@needs("nbdkit", "nbdfuse", "fusermount3", "fuse", "mount")
+def test_served(rescue, laptop, filter):
+    """look, serve, mount."""
+    rescue.variables["LUKSRD_FILTER"] = str(filter)
+    words = command(laptop.shown, "serve")
+    with Terminal(rescue, *words) as terminal:
+        terminal.asked().type(PASS + b"\n").until(b"ends it\\.")
+        shown = terminal.shown.decode().replace("\r\n", "\n")
+        served = laptop.folder / words[-1] / "plain"
+        assert served.read_bytes()[:len(laptop.plain)] == laptop.plain
+        if not laptop.logical:
+            mounts(shown, laptop.folder)
+        terminal.signal(signal.SIGINT)
+        assert terminal.ended() == 0
+    wait_until(lambda: not served.parent.exists())
+
+
+def test_tried(rescue, laptop):
+    """look, try, the line that writes the key file, decrypt."""
+    (laptop.folder / "LIST").write_bytes(b"wrong\n\n" + PASS + b"\n")
+    ended = rescue(*command(laptop.shown, "try"))
+    assert ended.status == 0, ended
+    lines = ended.output.decode().splitlines()
+    assert lines[0] == "line 3 opens key slot 0"
+    must("bash", "-c", lines[2], cwd=laptop.folder)
+    ended = rescue(*shlex.split(lines[3])[1:])
+    assert ended.status == 0, ended
+    assert (laptop.folder / "plain.img").read_bytes()[:len(laptop.plain)] == laptop.plain
+
+
+class TestBadSectors:
+    """The third laptop, with forty bad sectors in places of the file system that are not in use."""
+
+    @pytest.fixture
+    def bad(self, laptop, bad_sectors):
+        if not laptop.is_third:
+            pytest.skip("file systems number their files otherwise here")
+        start = volumes.payload_start(laptop.folder / "laptop.img")
+        unused = [at for at in range(8 * MIB, len(laptop.plain) - MIB, 9 * 4096 + SECTOR * 3)
+                  if not any(laptop.plain[at - 4096:at + 8192])]
+        places = [at // SECTOR * SECTOR for at in unused[:40]]
+        assert len(places) == 40
+        env = bad_sectors(laptop.folder / "laptop.img", [(start + at, SECTOR) for at in places])
+        return types.SimpleNamespace(places=places, env=env)
+
+    @needs("mount")
+    def test_decrypted(self, rescue, laptop, bad):
+        status, shown = typed(rescue, command(laptop.shown, "decrypt"), env=bad.env)
+        assert status == 6, shown
+        plain = bytearray(laptop.plain)
+        unit = 4096  # of the encryption
+        for at in bad.places:
+            plain[at // unit * unit:at // unit * unit + unit] = bytes(unit)
+        assert (laptop.folder / "plain.img").read_bytes()[:len(plain)] == plain
+        mounts(shown, laptop.folder)
+
+    @needs("nbdkit", "nbdfuse", "fusermount3", "fuse")
+    def test_served(self, rescue, laptop, bad, filter):
+        rescue.variables["LUKSRD_FILTER"] = str(filter)
+        words = command(laptop.shown, "serve")
+        with Terminal(rescue, *words, env=bad.env) as terminal:
+            terminal.asked().type(PASS + b"\n").until(b"ends it\\.")
+            with open(laptop.folder / words[-1] / "plain", "rb", buffering=0) as file:
+                assert os.pread(file.fileno(), 65536, 0) == laptop.plain[:65536]
+                with pytest.raises(OSError):
+                    os.pread(file.fileno(), 4096, bad.places[7])
+            terminal.signal(signal.SIGINT)
+            assert terminal.ended() == 0
+
+
+def test_documents(rescue, laptop):
+    """The commands of README and RESCUE.md, as they are written there, on the image of a disk."""
+    if laptop.logical or laptop.is_third:
+        pytest.skip("file systems number their files otherwise here")
+    for name, text in ("README.md", "The first line prints"), ("RESCUE.md", "The second one prints"):
+        before = "\n".join(recipe(name, "luksrd-rescue"))
+        commands = [line for line in document(name).read_text().splitlines() if re.match("    (luksrd-rescue|mount) ", line)]
+        assert [line.split()[0] for line in commands[:3]] == ["luksrd-rescue", "luksrd-rescue", "mount"], (text, before)
