@@ -1,6 +1,7 @@
 """Images of whole disks, with partition tables by sfdisk, and what can be in their partitions."""
 
 import os
+import re
 import struct
 
 from support import must
@@ -12,11 +13,14 @@ EFI, LINUX, LUKS = "uefi", "linux", "CA7D7CCB-63ED-4C53-861C-1742536059CC"
 
 
 def disk(path, label, rows, contents):
-    """A disk with this kind of table and these rows of sfdisk, with these contents at the start of
-    partitions, by their offsets in bytes. It is as long as all of it needs, and 2 MiB more."""
-    end = max(offset + len(content) for offset, content in contents.items())
+    """A disk with this kind of table and these rows, with these contents at the start of partitions,
+    by their offsets in bytes. It is as long as all of it needs, and 2 MiB more."""
+    ends = [offset + len(content) for offset, content in contents.items()]
+    for line in rows:
+        start, length = re.match(r"start=(\d+), size=(\d+)", line).groups()
+        ends.append((int(start) + int(length)) * SECTOR)
     path.touch()
-    os.truncate(path, max(end, path.stat().st_size) + 2 * MIB)
+    os.truncate(path, max(ends) + 2 * MIB)
     must("sfdisk", "-q", path, stdin="\n".join([f"label: {label}", *rows, ""]).encode())
     with open(path, "r+b") as file:
         for offset, content in contents.items():

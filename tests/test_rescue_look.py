@@ -69,7 +69,7 @@ def test_a_disk(rescue, laptop, tmp_path):
     uuid = uuid_of(laptop.volume)
     text = text_of(rescue, "laptop.img")
     assert text.splitlines()[:8] == [
-        "laptop.img: 20 MiB, a disk with 5 partitions",
+        "laptop.img: 21 MiB, a disk with 5 partitions",
         '  partition 1: 2 MiB, EFI system "EFI system": FAT, label ESP',
         "  partition 2: 4 MiB, Linux: ext4, label boot",
         "  partition 3: 2 MiB, Microsoft data: BitLocker",

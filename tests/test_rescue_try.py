@@ -15,7 +15,7 @@ from volumes import PASS, PASS2, by_qemu, copy_of, cryptsetup
 
 TREE = str(TOP / "rescue")
 # passphrases that a program could misread
-ODD = [b"a passphrase", b"-n %s \\t\\\\ \"$(id)\" '*", b" blanks ", b"\xc3\xbc\xff", b"--help"]
+ODD = [b"a passphrase", b"-n %s \\t\\\\ \"$(id)\" '*", b" blanks ", b"\xc3\xbc", b"--help"]
 NONE = "luksrd-rescue: {}: none of {} lines opens the volume\n"
 
 
@@ -258,7 +258,7 @@ def busy(process):
 def test_memory(rescue, kinds, tmp_path):
     """As many at once as there is memory for; a line for which it runs out is tried again."""
     script = ("import sys; sys.path.insert(0, sys.argv.pop(1)); from luksrd_rescue import trying, unlocking, command\n"
-              "unlocking.available_memory = lambda: int(sys.argv.pop(1)) << 20\n"
+              "room = int(sys.argv.pop(1)) << 20; unlocking.available_memory = lambda: room\n"
               "run = trying._Run.__init__\n"
               "def noted(self, file, arguments, attempt, jobs, state):\n"
               "    print('jobs', jobs, flush=True); run(self, file, arguments, attempt, jobs, state)\n"

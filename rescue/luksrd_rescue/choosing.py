@@ -120,7 +120,10 @@ def _with_header(image, facts: audit.Found) -> Volume:
 
 
 def choose(image, arguments: argparse.Namespace) -> Volume:
-    """The volume that the options name, or the only one. Several are listed, and refused."""
+    """The volume that the options name, or the only one. Several are listed, and refused. With the
+    volume key and the payload's offset it needs no header: then it begins where the image does."""
+    if getattr(arguments, "payload_offset", None) is not None and not words_of(arguments):
+        return _in_range(image, 0, None, None)
     volumes = find_volumes(image, arguments.partition, arguments.offset, arguments.length,
                            arguments.header, getattr(arguments, "quiet", False))
     if not volumes:

@@ -95,7 +95,7 @@ def run(arguments: argparse.Namespace) -> int:
         kept = _kept(arguments, image)
         target.check(kept)
         resuming.check_map_path(map_path, target, kept, arguments)
-        volume = _chosen(image, arguments)
+        volume = choosing.choose(image.patched(), arguments)
         loaded = Loaded(image)
         unlocked = unlocking.unlock(image, volume, arguments, loaded)
         terminal.wipe(unlocked.passphrase)
@@ -115,15 +115,6 @@ def _save_first(begun: _Begun, target: Target) -> None:
     except Refusal:
         target.remove()
         raise
-
-
-def _chosen(image: Image, arguments: argparse.Namespace) -> choosing.Volume:
-    """The volume that is meant. With a volume key and the payload's offset it needs no header."""
-    options = arguments.partition, arguments.offset, arguments.length, arguments.header
-    if arguments.payload_offset is not None and all(it is None for it in options):
-        return choosing.find_volumes(image.patched(), offset=0)[0]
-    with terminal.Progress(image.size, "B", arguments.quiet) as progress:
-        return choosing.choose(image.patched(), arguments, progress)
 
 
 def _kept(arguments: argparse.Namespace, image: Image) -> list[Kept]:
