@@ -105,60 +105,75 @@ def test_killed_and_gone_on_with_once(rescue, large, plain):
     assert same(rescue.folder / "plain", plain) and not (rescue.folder / "plain.map").exists()
 
 
-READ = re.compile(r"preadv2?\((\d+)<.*?>?, .*?, (?:\d+, )?(\d+)(?:, 0)?\) = (\d+)")
+def payload_read(line, volume):
+    """What of the payload a line of strace reads: where, and how many bytes; nothing if it does not."""
+    row = re.search(rf"preadv2?\(\d+<{re.escape(str(volume))}>.*, 1, (\d+)(?:, 0)?\) += (\d+)$", line)
+    return (int(row[1]) - (2 << 20), int(row[2])) if row and int(row[1]) >= 2 << 20 else None
 
 
-def payload_reads(trace):
-    """The ranges of the payload that a run has read, in the order in which it did."""
-    found = []
+def calls_of(trace):
+    """The calls in a trace of threads, each on one line, at the place of its end, after the thread's number."""
+    begun, found = {}, []
     for line in trace.read_text(errors="replace").splitlines():
-        row = re.search(r"preadv2?\(.*, 1, (\d+)(?:, 0)?\) = (\d+)", line)
-        if row and int(row[1]) >= 2 << 20:
-            found.append((int(row[1]) - (2 << 20), int(row[2])))
+        thread, _, call = line.partition(" ")
+        call = call.strip()
+        if call.endswith("<unfinished ...>"):
+            begun[thread] = call.removesuffix("<unfinished ...>").rstrip()
+            found.append(f"{thread} BEGUN {call}")
+            continue
+        if call.startswith("<... "):
+            call = begun.pop(thread, "") + call.partition("resumed>")[2]
+        found.append(f"{thread} {call}")
     return found
+
+
+def payload_reads(trace, volume):
+    """The ranges of the payload that a run has read, in the order in which it did."""
+    return [found for line in calls_of(trace) if (found := payload_read(line, volume))]
 
 
 @needs("strace")
 def test_order_of_the_disk_and_of_the_map(rescue, large, plain):
     """Reads and writes go forwards; the map is renamed only after the data that it calls done was synced; at most 64 MiB were
     read that the map does not have."""
-    trace = ["strace", "-f", "-qq", "-o", "trace", "-e", "trace=preadv,preadv2,pwrite64,fdatasync,fsync,rename,renameat,renameat2"]
+    trace = ["strace", "-f", "-y", "-qq", "-o", "trace", "-e",
+             "trace=preadv,preadv2,pwrite64,fdatasync,fsync,rename,renameat,renameat2"]
     says(rescue(*COMMAND, "--quiet", before=trace), status=0)
-    reads = payload_reads(rescue.folder / "trace")
+    reads = payload_reads(rescue.folder / "trace", large)
     assert reads == sorted(reads) and sum(length for _, length in reads) == LENGTH
-    writes, synced, noted, read, renames = 0, 0, 0, 0, 0
+    written = synced = noted = read = renames = 0
     at_sync = {}
-    for line in (rescue.folder / "trace").read_text(errors="replace").splitlines():
+    for line in calls_of(rescue.folder / "trace"):
         thread = line.split()[0]
-        if found := re.search(r"pwrite64\(.*, (\d+), (\d+)\) = (\d+)", line):
-            assert int(found[2]) == writes
-            writes += int(found[3])
-        elif found := re.search(r"preadv2?\(.*, 1, (\d+)(?:, 0)?\) = (\d+)", line):
-            read += int(found[2]) if int(found[1]) >= 2 << 20 else 0
+        if found := payload_read(line, large):
+            read += found[1]
             assert read - noted <= 64 << 20
-        elif re.search(r"fdatasync\(\d+", line):
-            # (the line of a call that others interrupt is that of its beginning: what was written by then)
-            at_sync[thread] = writes if "resumed" not in line else at_sync[thread]
-            synced = at_sync[thread]
-        elif "rename" in line and "plain.map" in line:
+        elif found := re.search(r"pwrite64\(\d+<.*/plain>, .*, (\d+), (\d+)\) += (\d+)$", line):
+            assert int(found[2]) == written
+            written += int(found[3])
+        elif "BEGUN fdatasync" in line:
+            at_sync[thread] = written
+        elif re.search(r" fdatasync\(\d+<.*/plain>\) += 0$", line):
+            # (what was written before it began)
+            synced = at_sync.pop(thread, written)
+        elif re.search(r' rename\w*\(.*"plain.map"', line):
             noted, renames = synced, renames + 1
-    assert renames > LENGTH >> 26 and writes == LENGTH
+    assert renames > LENGTH >> 26 and written == LENGTH and noted == LENGTH
     assert same(rescue.folder / "plain", plain)
 
 
 @needs("strace")
 def test_what_is_read_again(rescue, large, plain):
     """Of what a killed run has read, the next one reads at most 64 MiB again."""
-    trace = ["strace", "-f", "-qq", "-e", "trace=preadv,preadv2"]
+    trace = ["strace", "-f", "-y", "-qq", "-e", "trace=preadv,preadv2"]
     run = rescue.start(*COMMAND, "--quiet", before=[*trace, "-o", "trace1"])
-    wait_until(lambda: sum(length for _, length in payload_reads(rescue.folder / "trace1")) > 96 << 20
-               if (rescue.folder / "trace1").exists() else False)
+    first = rescue.folder / "trace1"
+    wait_until(lambda: first.exists() and sum(length for _, length in payload_reads(first, large)) > 96 << 20)
     os.killpg(run.pid, signal.SIGKILL)
     run.communicate()
     says(rescue(*COMMAND, "--quiet", "--resume", before=[*trace, "-o", "trace2"]), status=0)
-    first, second = (payload_reads(rescue.folder / name) for name in ("trace1", "trace2"))
-    again = sum(length for _, length in first) + sum(length for _, length in second) - LENGTH
-    assert 0 <= again <= 64 << 20
+    both = payload_reads(first, large) + payload_reads(rescue.folder / "trace2", large)
+    assert 0 <= sum(length for _, length in both) - LENGTH <= 64 << 20
     assert same(rescue.folder / "plain", plain)
 
 
@@ -181,11 +196,11 @@ def test_interrupted_while_deriving(rescue, tmp_path):
     volumes.cryptsetup("luksFormat --type luks1 --key-file pass --pbkdf-force-iterations 1000", "slow", cwd=tmp_path)
     # (the iterations of slot 0: hours)
     volumes.overwrite(tmp_path / "slow", 212, b"\xff\xff\xff\xff")
-    run = rescue.start("decrypt", "slow", "--key-file", "pass", "-o", "plain")
+    run = rescue.start("decrypt", "slow", "--key-file", "pass", "-o", "plain", bufsize=0)
     assert b"trying key slot 0 (PBKDF2" in run.stderr.readline()
     run.send_signal(signal.SIGINT)
-    _, message = run.communicate()
-    assert (run.returncode, message) == (130, b"luksrd-rescue: interrupted\n")
+    assert (run.stderr.read(), run.wait()) == (b"luksrd-rescue: interrupted\n", 130)
+    run.stdout.close(), run.stderr.close()
     assert not (tmp_path / "plain").exists()
 
 

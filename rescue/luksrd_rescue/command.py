@@ -3,11 +3,13 @@
 from __future__ import annotations
 
 import argparse
+import contextlib
 import os
 import re
+import signal
 import sys
 import traceback
-from typing import NoReturn, Optional, Sequence
+from typing import Iterator, NoReturn, Optional, Sequence
 
 from . import __version__
 
@@ -135,6 +137,20 @@ def _run(words: Optional[Sequence[str]]) -> int:
     return status
 
 
+@contextlib.contextmanager
+def _interruptible() -> Iterator[None]:
+    """Ctrl-C raises KeyboardInterrupt in the block, and ends the program at once after it. (Before
+    it, too, if the launcher has said so.)"""
+    is_ignored = signal.getsignal(signal.SIGINT) == signal.SIG_IGN
+    try:
+        if not is_ignored:
+            signal.signal(signal.SIGINT, signal.default_int_handler)
+        yield
+    finally:
+        if not is_ignored:
+            signal.signal(signal.SIGINT, signal.SIG_DFL)
+
+
 def _unwritable() -> int:
     """What is left in the buffer of standard output cannot be written."""
     say("standard output", "write failed")
@@ -174,7 +190,8 @@ def main(words: Optional[Sequence[str]] = None) -> int:
     """Runs the command, and returns its status."""
     _prepare_streams()
     try:
-        return _run(words)
+        with _interruptible():
+            return _run(words)
     except KeyboardInterrupt:
         say("", "interrupted")
         return INTERRUPTED
