@@ -85,6 +85,12 @@ ssize_t pread64(int descriptor, void *buffer, size_t count, off64_t offset)
     return length < 0 ? -1 : real(descriptor, buffer, length, offset);
 }
 
+/* (what nbdkit calls; with offsets of 64 bits it is the same function) */
+ssize_t pread(int descriptor, void *buffer, size_t count, off_t offset)
+{
+    return pread64(descriptor, buffer, count, offset);
+}
+
 ssize_t read(int descriptor, void *buffer, size_t count)
 {
     ssize_t (*real)(int, void *, size_t) = dlsym(RTLD_NEXT, "read");

@@ -10,7 +10,6 @@ import types
 import pytest
 import volumes
 from disks import EFI, LUKS, MIB, disk, file_system, row
-from documents import document, recipe
 from rescuing import Terminal
 from support import alone, must, namespace, needs, run, wait_until
 from volumes import PASS, copy_of, cryptsetup, luks1, passphrases
@@ -126,7 +125,7 @@ def laptop(request, rescue, loop, cached, tmp_path):
         pytest.skip(NO_ARGON2)
     return types.SimpleNamespace(
         folder=tmp_path, plain=(folder / "plain").read_bytes(), shown=shown, logical=logical,
-        root=(folder / "fs").read_bytes() if make is third_laptop else None, is_third=make is third_laptop)
+        is_argon2=kdf == "argon2id")
 
 
 pytestmark = [pytestmark, alone, needs("root", "loop", "lvm", "mkfs.xfs", "mkfs.vfat")]
@@ -202,10 +201,10 @@ def test_tried(rescue, laptop):
 class TestBadSectors:
     """The third laptop, with forty bad sectors in places of the file system that are not in use."""
 
+    pytestmark = pytest.mark.parametrize("laptop", ["LUKS2, XFS"], indirect=True)
+
     @pytest.fixture
     def bad(self, laptop, bad_sectors):
-        if not laptop.is_third:
-            pytest.skip("file systems number their files otherwise here")
         start = volumes.payload_start(laptop.folder / "laptop.img")
         unused = [at for at in range(8 * MIB, len(laptop.plain) - MIB, 9 * 4096 + SECTOR * 3)
                   if not any(laptop.plain[at - 4096:at + 8192])]
@@ -239,11 +238,3 @@ class TestBadSectors:
             assert terminal.ended() == 0
 
 
-def test_documents(rescue, laptop):
-    """The commands of README and RESCUE.md, as they are written there, on the image of a disk."""
-    if laptop.logical or laptop.is_third:
-        pytest.skip("file systems number their files otherwise here")
-    for name, text in ("README.md", "The first line prints"), ("RESCUE.md", "The second one prints"):
-        before = "\n".join(recipe(name, "luksrd-rescue"))
-        commands = [line for line in document(name).read_text().splitlines() if re.match("    (luksrd-rescue|mount) ", line)]
-        assert [line.split()[0] for line in commands[:3]] == ["luksrd-rescue", "luksrd-rescue", "mount"], (text, before)

@@ -84,8 +84,12 @@ class Slot(NamedTuple):
 
     @property
     def can_try(self) -> bool:
-        """Whether the library can derive its key from a passphrase."""
-        return bool(self.raw.get("library_can_try", self.raw.get("can_try")))
+        """Whether the library can derive its key from a passphrase. (`can_try` is about the program
+        luksrd, which derives none by Argon2.)"""
+        if "library_can_try" in self.raw:
+            return bool(self.raw["library_can_try"])
+        is_argon2 = self.raw.get("reason") in ("argon2i", "argon2id")
+        return bool(self.raw.get("can_try")) or is_argon2 and tools.has_argon2()
 
     @property
     def is_used(self) -> bool:

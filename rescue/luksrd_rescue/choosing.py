@@ -23,6 +23,12 @@ class Volume(NamedTuple):
             return f"--partition {self.partition.number}"
         return f"--offset {self.offset}" if self.offset else ""
 
+    def words(self) -> str:
+        """Where it is, for people."""
+        if self.partition:
+            return f"the volume in partition {self.partition.number}"
+        return f"the volume at byte {self.offset}" if self.offset else "the volume"
+
     @property
     def is_header_only(self) -> bool:
         """Whether it is a detached header or the backup of one: its payload is elsewhere."""

@@ -282,9 +282,8 @@ def _volume_steps(report: Report, volume: choosing.Volume, must_choose: bool) ->
     image = f"{quoted(report.path)} {options}".rstrip()
     if volume.facts.fault or not any(slot.opens for slot in volume.facts.slots):
         return []
-    name = f"the volume of {options}" if options else "the volume"
     plain, folder = contents.free_name("plain.img"), contents.free_name("plain")
-    decrypt = Step(f"Decrypt {name} into a file", f"luksrd-rescue decrypt {image} -o {plain}")
+    decrypt = Step(f"Decrypt {volume.words()} into a file", f"luksrd-rescue decrypt {image} -o {plain}")
     serve = Step("Or show the plaintext as a file, without a copy",
                  f"luksrd-rescue serve {image} {folder}")
     attempt = Step("If the passphrase is one of many, the lines of the file LIST",
