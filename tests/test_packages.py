@@ -44,7 +44,7 @@ DEPENDS = [
     ("luksrd-rescue", "python3:any"),
     ("luksrd-rescue", rf"python3-luksrd \(>= {VERSION}\)"),
     ("luksrd-rescue", rf"luksrd-audit \(>= {VERSION}\)"),
-    ("luksrd-rescue", "util-linux"),
+    ("luksrd-rescue", r"util-linux \(>= 2\.36\)"),
     ("luksrd", r"libc6 \(>= 2\.[0-9]+\)"),
     ("luksrd-audit", r"libc6 \(>= 2\.[0-9]+\)"),
     ("libluksrd-dev", rf"libluksrd2 \(= {VERSION}-1\)"),

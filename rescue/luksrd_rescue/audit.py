@@ -69,10 +69,12 @@ FINDINGS = {
 
 
 class Slot(NamedTuple):
-    """A key slot: `raw` is its object in luksrd-audit's line, `tokens` the types of its tokens."""
+    """A key slot: `raw` is its object in luksrd-audit's line, `tokens` the types of its tokens, and
+    `is_detached` whether the payload is elsewhere, before which its key area need not end."""
 
     raw: dict[str, Any]
     tokens: tuple[str, ...]
+    is_detached: bool = False
 
     def _number(self, name: str) -> int:
         value = self.raw.get(name)
@@ -88,8 +90,11 @@ class Slot(NamedTuple):
         luksrd, which derives none by Argon2.)"""
         if "library_can_try" in self.raw:
             return bool(self.raw["library_can_try"])
-        is_argon2 = self.raw.get("reason") in ("argon2i", "argon2id")
-        return bool(self.raw.get("can_try")) or is_argon2 and tools.has_argon2()
+        reason = self.raw.get("reason")
+        if reason in ("argon2i", "argon2id"):
+            return tools.has_argon2()
+        # (luksrd-audit takes each header for one that comes before its payload; the library decides)
+        return bool(self.raw.get("can_try")) or reason == "area" and self.is_detached
 
     @property
     def is_used(self) -> bool:
@@ -158,10 +163,12 @@ class Slot(NamedTuple):
 
 
 class Found(NamedTuple):
-    """A LUKS header: `raw` is luksrd-audit's line, `offset` where the volume begins in its image."""
+    """A LUKS header: `raw` is luksrd-audit's line, `offset` where the volume begins in its image, and
+    `is_apart` whether it was named as one that is in a file of its own."""
 
     raw: dict[str, Any]
     offset: int
+    is_apart: bool = False
 
     def _number(self, name: str) -> int:
         value = self.raw.get(name)
@@ -204,13 +211,19 @@ class Found(NamedTuple):
         return value if isinstance(value, int) else None
 
     @property
+    def is_detached(self) -> bool:
+        """Whether its payload is elsewhere: a header before its payload never has 0 as its offset."""
+        return self.is_apart or self.segment_offset == 0
+
+    @property
     def tokens(self) -> list[dict[str, Any]]:
         return [each for each in self.raw.get("tokens") or [] if isinstance(each, dict)]
 
     @property
     def slots(self) -> list[Slot]:
         """The key slots that are in use."""
-        slots = [Slot(each, self._types_for(each)) for each in self.raw.get("slots") or []]
+        slots = [Slot(each, self._types_for(each), self.is_detached)
+                 for each in self.raw.get("slots") or []]
         return [slot for slot in slots if slot.is_used]
 
     def _types_for(self, slot: dict[str, Any]) -> tuple[str, ...]:
@@ -234,8 +247,8 @@ class Found(NamedTuple):
     def fault(self) -> Optional[str]:
         """Why luksrd does not read the payload, or None if it does."""
         for finding in self.all_findings:
-            if finding.startswith("segment: "):
-                name = finding.removeprefix("segment: ")
+            name = finding.removeprefix("segment: ")
+            if name != finding and not (name == "offset" and self.is_detached):
                 return FAULTS.get(name, shown(name))
         return None
 
@@ -272,7 +285,7 @@ def of_file(path: str) -> Found:
         raise Refusal(4, path, f"cannot open: {error.strerror}") from None
     if not lines or "error" in lines[0]:
         raise Refusal(4, path, lines[0]["error"] if lines else "luksrd-audit says nothing of it")
-    return Found(lines[0], 0)
+    return Found(lines[0], 0, True)
 
 
 def _lines_for(read: Callable[[memoryview, int], int], length: int) -> list[dict[str, Any]]:

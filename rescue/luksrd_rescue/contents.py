@@ -214,8 +214,8 @@ def _commands(found: Contents, can_mount: bool) -> list[str]:
     commands = [f"  {command}"] if command and can_mount else []
     if found.kind in ("ext2", "ext3", "ext4"):
         place = f"{found.path}?offset={found.offset}" if found.name else found.path
-        commands.append(f"  or without root: debugfs -R 'ls -l /' {quoted(place)}" if commands
-                        else f"  debugfs -R 'ls -l /' {quoted(place)}")
+        without = f"{tools.typed('debugfs')} -R 'ls -l /' {quoted(place)}"
+        commands.append(f"  or without root: {without}" if commands else f"  {without}")
     return commands
 
 

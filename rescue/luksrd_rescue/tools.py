@@ -43,6 +43,11 @@ def found(program: str) -> Optional[str]:
     return shutil.which(program, path=search_path())
 
 
+def typed(program: str) -> str:
+    """A program as its user types it: by its path, if it is in a folder of the system alone."""
+    return program if shutil.which(program) else found(program) or program
+
+
 def find(program: str) -> str:
     """The path of a program; if it is not installed, the refusal names the package to install."""
     path = found(program)
