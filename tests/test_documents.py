@@ -253,10 +253,8 @@ CASES = {
         WHOLE, ["README.md:2. One file of a whole disk"], GIVES_FSTAB,
         ["whole.img2 : start=        6144,"], links=False),
     "one file of a disk": Case(
-        WHOLE | {"whole.img.xz": "xz disk luks2 ext4", "whole.qcow2": "qcow2 disk luks2 ext4"},
-        ["RECIPES.md:What is in it", "RECIPES.md:One file out of it",
-         "RECIPES.md:The same file out of xz"],
-        {"fstab": FSTAB, "fstab2": FSTAB, "fstab3": FSTAB, "fstab4": FSTAB, "plain.img": "ext4"},
+        WHOLE, ["RECIPES.md:What is in it", "RECIPES.md:One file out of it"],
+        {"fstab": FSTAB, "plain.img": "ext4"},
         ["whole.img2 : start=        6144,", 'start: UUID="', 'TYPE="ext4"']),
     "one file by the filter's page": Case(
         WHOLE | {"whole.img.xz": "xz disk luks2 ext4", "disk.qcow2": "qcow2 luks2 ext4"},
