@@ -8,7 +8,8 @@ use Rattle.std.proofs.lemmas.Option.{same_Some}
 use Rattle.luks_header_area.specs.Area.{max_loaded_len}
 use Rattle.luks_cipher.specs.declared.mode.Mode.{Mode}
 use Rattle.luks_kdf.specs.declared.hash.Hash.{Hash}
-use Rattle.luks_verdict.specs.Rule.{exceeds, iterations_out_of_range, is_in_range, area_out_of_range}
+use Rattle.luks_verdict.specs.Derivation.{is_derivable, is_in_range}
+use Rattle.luks_verdict.specs.Rule.{exceeds, iterations_out_of_range, area_out_of_range}
 use Rattle.luks_verdict.specs.Rule.{stripes_out_of_range, key_material_len}
 use Rattle.luks_verdict.specs.Segment.{segment_from, segment_of_all}
 use Rattle.luks_verdict.specs.Slot.{digest_from, material_end, verdict_by, verdict_kind_of, slot_from}
@@ -17,6 +18,7 @@ use Rattle.luks_verdict.proofs.MadeLemmas.{are_in_range, digest_there, mapped, o
 use Rattle.luks_verdict.proofs.MadeLemmas.{refused_or-fault, refused_or-none, refused_or-ok, slot_from-yes, slot_of}
 use Rattle.luks_verdict.proofs.MadeLemmas.{some_from_not_none}
 use Rattle.luks_verdict.proofs.TableLemmas.{none_holds}
+use Rattle.luks_verdict.specs.declared.derivation.Derivation.TheVariants.{Pbkdf2}
 use Rattle.luks_verdict.specs.declared.digest.KeyDigest.{KeyDigest}
 use Rattle.luks_verdict.specs.declared.refusal.SegmentFault.{SegmentFault}
 use Rattle.luks_verdict.specs.declared.sector_size.SectorSize.TheVariants.{B512}
@@ -90,7 +92,7 @@ segment1-none header segment none made = refused_or-none _ _ segment none made
 -- what is needed to open a slot is from this header, and its key material ends at or before the payload's start, if the
 -- header is attached
 pub record IsOf (header : Header1) (usable : Slot) : Type 0 where
-  pub kdf : usable.parts.kdf_hash ≡ hash1_of header
+  pub kdf : (iterations : ℕ) × (usable.parts.derivation ≡ Pbkdf2 (hash1_of header) iterations)
   pub af : usable.parts.af_hash ≡ hash1_of header
   pub volume_key : usable.parts.key_bytes ≡ header.key_bytes
   pub area_key : usable.parts.area_key_bytes ≡ header.key_bytes
@@ -108,7 +110,7 @@ module _ (header : Header1) (limit : Option ℕ) (slot : StoredSlot) where
   -- if these reasons to skip the slot do not hold, its numbers are in range
   range_of : stripes_out_of_range slot.stripes ≡ false → iterations_out_of_range limit slot.iterations ≡ false
       → area1_out_of_range header slot ≡ false → are_in_range (slot_parts1_of header slot) ≡ true
-  unfolding is_in_range iterations_out_of_range stripes_out_of_range slot_parts1_of
+  unfolding is_in_range is_derivable iterations_out_of_range stripes_out_of_range slot_parts1_of
   range_of stripes iterations area =
       let bounds = area_in_range header slot area in
       grind (arith, nat_tests)
@@ -159,7 +161,7 @@ module _ (header : Header1) (limit : Option ℕ) (slot : StoredSlot) where
       let same : usable ≡ slot_of (slot_parts1_of header slot) there.0 there.2 =
       same_Some _ _ (sym verdict.1 ∙ there.3) in
       let known : IsOf header (slot_of (slot_parts1_of header slot) there.0 there.2) = record {
-        kdf = refl;
+        kdf = (slot.iterations, refl);
         af = refl;
         volume_key = refl;
         area_key = refl;

@@ -8,6 +8,7 @@ use Rattle.luks_kdf.specs.declared.hash.Hash.{Hash}
 use Rattle.luks_verdict.specs.Rule.{iterations_out_of_range, area_out_of_range, stripes_out_of_range, key_material_len}
 use Rattle.luks_verdict.specs.Slot.{digest_from, has_no_usable_digest, slot_from, verdict_by}
 use Rattle.luks_verdict.specs.Table.{first_match}
+use Rattle.luks_verdict.specs.declared.derivation.Derivation.TheVariants.{Pbkdf2}
 use Rattle.luks_verdict.specs.declared.digest.DigestParts.{DigestParts}
 use Rattle.luks_verdict.specs.declared.refusal.SkipReason.{SkipReason}
 use Rattle.luks_verdict.specs.declared.refusal.SkipReason.TheVariants.{State, Stripes, Iterations, Area, Digest}
@@ -72,8 +73,7 @@ slot_reasons1 header limit slot =
 unfoldable pub slot_parts1_of : Header1 → StoredSlot → SlotParts
 slot_parts1_of header slot = record {
   priority = 1;
-  kdf_hash = hash1_of header;
-  iterations = slot.iterations;
+  derivation = Pbkdf2 (hash1_of header) slot.iterations;
   salt = slot.salt;
   af_hash = hash1_of header;
   stripes = slot.stripes;

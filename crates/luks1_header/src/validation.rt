@@ -12,6 +12,7 @@ use crate::header::{HEADER1_LEN, Header1, SlotState, StoredSlot};
 use luks_cipher::Mode;
 use luks_kdf::Hash;
 use luks_verdict::bytes::HeaderBytes;
+use luks_verdict::derivation::Derivation;
 use luks_verdict::digest::{DigestParts, KeyDigest};
 use luks_verdict::refusal::{SegmentFault, SkipReason};
 use luks_verdict::rule::{
@@ -152,8 +153,7 @@ fn slot1_of(alloc: Global, header: &Header1, slot: &StoredSlot) -> Result<Option
 {
     let parts = SlotParts {
         priority: 1,
-        kdf_hash: header.hash(),
-        iterations: slot.iterations,
+        derivation: Derivation::Pbkdf2(header.hash(), u64::from(slot.iterations)),
         salt: HeaderBytes::new(alloc, &slot.salt)?,
         af_hash: header.hash(),
         stripes: slot.stripes,

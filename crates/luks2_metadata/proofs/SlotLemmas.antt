@@ -1,19 +1,32 @@
 -- Properties of usable digests, and of a slot that there is no reason to skip.
-use Rattle.std.proofs.Common.{◌≡◌, ◌∙◌, ℕ, ◌<◌, ◌≤◌, ap, sym, subst, refl, true, false, Option, Some, None, arith}
-use Rattle.std.specs.Prelude.{◌&&◌, ◌||◌, not, codes, is_none, is_some, option_and_then, option_map}
+use Rattle.std.proofs.Common.{◌≡◌, ◌∙◌, ℕ, ◌^◌, ◌<◌, ◌≤◌, ap, sym, subst, refl, Bool, true, false, List, [], length}
+use Rattle.std.proofs.Common.{Option, Some, None, arith}
+use Rattle.std.specs.Prelude.{◌&&◌, ◌||◌, not, codes, if◌then◌else◌, is_none, is_some, nat_lt, option_and_then}
+use Rattle.std.specs.Prelude.{option_map, unwrap_or}
+use Rattle.std.specs.Option.{option_map_or, option_or}
 use Rattle.std.proofs.lemmas.Bool.Decides.{nat_tests}
-use Rattle.std.proofs.lemmas.Bool.{and_parts, not-false, or_parts}
-use Rattle.std.proofs.lemmas.Option.{same_Some}
+use Rattle.std.proofs.lemmas.Bool.{and_parts, ltb-true, not-false, or_parts}
+use Rattle.std.proofs.lemmas.Option.{none-some, same_Some}
+use Rattle.luks_argon2.specs.declared.variant.Variant.{Variant}
 use Rattle.luks_cipher.specs.declared.mode.Mode.{Mode}
 use Rattle.luks_cipher.proofs.ModeLemmas.{max_mode_key}
-use Rattle.luks_verdict.specs.Rule.{exceeds, iterations_out_of_range, is_in_range, area_out_of_range}
+use Rattle.luks_verdict.specs.Derivation.{argon2_refusal, derivation_refusal, has_known_hash, is_allowed, is_derivable}
+use Rattle.luks_verdict.specs.Derivation.{lanes_out_of_range, memory_out_of_range, passes_out_of_range}
+use Rattle.luks_verdict.specs.Rule.{exceeds, iterations_out_of_range, area_out_of_range}
 use Rattle.luks_verdict.specs.Rule.{is_digest, key_material_len, stripes_out_of_range, max_iteration_count}
+use Rattle.luks_verdict.specs.Derivation.{is_in_range}
 use Rattle.luks_verdict.specs.Slot.{has_no_usable_digest, material_end}
 use Rattle.luks_verdict.specs.Slot.{slot_from, verdict_kind_of}
 use Rattle.luks_verdict.proofs.MadeLemmas.{are_in_range, digest_from-no, digest_from-yes, digest_of, digest_there}
 use Rattle.luks_verdict.proofs.MadeLemmas.{is_usable, mapped, of_usable, slot_from-yes, slot_of, some_from_not_none}
-use Rattle.luks_verdict.proofs.RangeLemmas.{in_range}
+use Rattle.luks_verdict.specs.declared.derivation.Argon2Limits.{Argon2Limits}
+use Rattle.luks_verdict.specs.declared.derivation.Derivation.{Derivation}
+use Rattle.luks_verdict.specs.declared.derivation.Derivation.TheVariants.{Pbkdf2, Argon2}
+use Rattle.luks_verdict.specs.declared.derivation.Limits.{Limits}
 use Rattle.luks_verdict.specs.declared.digest.KeyDigest.{KeyDigest}
+use Rattle.luks_verdict.specs.declared.refusal.SkipReason.{SkipReason}
+use Rattle.luks_verdict.specs.declared.refusal.SkipReason.TheVariants.{Iterations, Argon2Time, Argon2Cpus}
+use Rattle.luks_verdict.specs.declared.refusal.SkipReason.TheVariants.{Argon2Memory}
 use Rattle.luks_verdict.specs.declared.slot.Slot.{Slot}
 use Rattle.luks_verdict.specs.declared.slot.SlotParts.{SlotParts}
 use Rattle.luks_verdict.specs.declared.slot.Verdict.TheVariants.{Usable}
@@ -21,14 +34,17 @@ use Rattle.luks_verdict.specs.declared.slot.VerdictKind.TheVariants.{Usable as K
 use Rattle.luks_kdf.specs.declared.hash.Hash.{Hash}
 use Rattle.luks_cipher.specs.Sector.{is_mode_key_length}
 use Rattle.luks2_json.specs.Numbered.{object_numbered}
-use Rattle.luks2_json.specs.Member.{is_length_for}
+use Rattle.luks2_json.specs.Member.{base64_member, in_member, is_length_for, passes}
 use Rattle.luks_verdict.proofs.TableLemmas.{none_holds}
 use Rattle.luks2_metadata.specs.Digest2.{digest2_for, digest2_of, digest_parts2_of, is_digest2, iterations_of_digest}
 use Rattle.luks2_metadata.specs.declared.bounds.Bounds.{Bounds}
 use Rattle.luks2_metadata.specs.Segment2.{payload2_start, payload_mode2_of}
-use Rattle.luks2_metadata.specs.Slot2.{reason2_of, slot2_at, slot2_of, slot_parts2_of, slot_reasons, verdict2_at}
-use Rattle.luks2_metadata.specs.Slot2.{verdict2_of}
+use Rattle.luks2_metadata.specs.Kdf2.{kdf2_of, derivation_by, is_argon2, is_kdf_type, variant_if, variant_of}
+use Rattle.luks2_metadata.specs.Slot2.{form_reasons, form_refusal, material_reasons, material_refusal, place_reasons}
+use Rattle.luks2_metadata.specs.Slot2.{place_refusal, reason2_of, slot2_at, slot2_of}
+use Rattle.luks2_metadata.specs.Slot2.{slot_parts2_of, verdict2_at, verdict2_of}
 use Rattle.serde_json.specs.Data.{Data}
+use Rattle.serde_json.specs.Find.{get}
 
 -- ---- usable digests
 
@@ -77,17 +93,34 @@ pub stripes_few : (stripes : ℕ) → stripes_out_of_range stripes ≡ false →
 unfolding stripes_out_of_range
 stripes_few stripes is = grind (arith, nat_tests)
 
--- a reason that does not hold with a limit does not hold without one
-iterations_in_range_without_limit : (limit : Option ℕ) (iterations : ℕ)
-    → iterations_out_of_range limit iterations ≡ false → iterations_out_of_range None iterations ≡ false
-unfolding iterations_out_of_range
-iterations_in_range_without_limit limit iterations is = grind (arith, nat_tests)
+-- if there is no reason not to derive a key in this way, the numbers are in range
+pub derivable_if : (limits : Limits) (derivation : Derivation) → derivation_refusal limits derivation ≡ None
+    → is_derivable derivation ≡ true
+unfolding derivation_refusal is_derivable argon2_refusal iterations_out_of_range
+derivable_if limits (Pbkdf2 hash iterations) none =
+    by (iterations_out_of_range limits.max_iterations iterations) refl none
+  where
+    by : (out : Bool) → iterations_out_of_range limits.max_iterations iterations ≡ out
+        → (if out then Some Iterations else None) ≡ None → not (iterations_out_of_range None iterations) ≡ true
+    by true is h = absurd cc
+    by false is h = grind (arith, nat_tests)
+derivable_if limits (Argon2 parameters) none =
+    of_rows (passes_out_of_range parameters.passes) (lanes_out_of_range parameters.lanes)
+    (memory_out_of_range parameters.memory_kib parameters.lanes) _ none
+  where
+    of_rows : (passes lanes memory : Bool) (limited : Option SkipReason)
+        → (if passes then Some Argon2Time else if lanes then Some Argon2Cpus else if memory then Some Argon2Memory
+        else limited) ≡ None → (not passes && not lanes && not memory) ≡ true
+    of_rows true lanes memory limited h = absurd cc
+    of_rows false true memory limited h = absurd cc
+    of_rows false false true limited h = absurd cc
+    of_rows false false false limited h = refl
 
-usable_digest_without_limit : (limit : Option ℕ) (digest : Option KeyDigest) → has_no_usable_digest limit digest ≡ false
-    → has_no_usable_digest None digest ≡ false
-unfolding has_no_usable_digest
-usable_digest_without_limit limit None is = is
-usable_digest_without_limit limit (Some digest) is = iterations_in_range_without_limit limit digest.parts.iterations is
+-- if one of two options or the other is none, both are
+none_of_both : {T : Type 0} (first second : Option T) → option_or first second ≡ None
+    → (first ≡ None) × (second ≡ None)
+none_of_both None second is = (refl, is)
+none_of_both (Some x) second is = absurd (none-some x (sym is))
 
 known_area : (mode : Option Mode) (bytes : ℕ) → is_none mode ≡ false → is_length_for mode bytes ≡ true
     → (known : Mode) × (mode ≡ Some known) × (is_mode_key_length known bytes ≡ true)
@@ -98,28 +131,89 @@ known_area (Some mode) bytes none is = (mode, refl, is)
 -- ---- what follows if there is no reason to skip a slot
 
 -- none of these reasons holds for a slot whose members have these values
-pub record NoReason (tree : Data) (bounds : Bounds) (limit : Option ℕ) (number : ℕ) (parts : SlotParts) : Type 0 where
-  pub hash : (is_none parts.kdf_hash || is_none parts.af_hash) ≡ false
+pub record NoReason (tree : Data) (bounds : Bounds) (limits : Limits) (number : ℕ) (parts : SlotParts) : Type 0 where
+  pub hash : (not (has_known_hash parts.derivation) || is_none parts.af_hash) ≡ false
   pub encryption : is_none parts.area_mode ≡ false
   pub key_size : not (is_length_for parts.area_mode parts.area_key_bytes
       && is_length_for (payload_mode2_of tree bounds) parts.key_bytes) ≡ false
   pub stripes : stripes_out_of_range parts.stripes ≡ false
-  pub iterations : iterations_out_of_range limit parts.iterations ≡ false
+  pub derivation : derivation_refusal limits parts.derivation ≡ None
   pub area : area_out_of_range bounds.end (payload2_start tree bounds) parts.area_offset parts.area_size
       (key_material_len parts.key_bytes parts.stripes) ≡ false
-  pub digest : has_no_usable_digest limit (digest2_for tree number) ≡ false
+  pub digest : has_no_usable_digest limits.max_iterations (digest2_for tree number) ≡ false
 
--- a slot's iterations, its stripes and the lengths of its keys fit into four bytes
+-- a slot's stripes and the lengths of its keys fit into four bytes
 pub record IsSmall (parts : SlotParts) : Type 0 where
-  pub iterations : parts.iterations ≤ max_iteration_count
   pub stripes : parts.stripes ≤ 4000
   pub key : parts.key_bytes ≤ 64
   pub area_key : parts.area_key_bytes ≤ 64
 
--- what is needed to open the slot agrees with the header: its hash functions and its area's mode are known, its keys
--- have valid lengths for their modes, its key material is before the payload, and its digest is that of its number
-pub record IsOf2 (tree : Data) (bounds : Bounds) (number : ℕ) (usable : Slot) : Type 0 where
-  pub kdf : (hash : Hash) × (usable.parts.kdf_hash ≡ Some hash)
+-- if there is no reason to skip a slot because of its material, its stripes and the lengths of its keys are small
+pub material_small : (payload_mode : Option Mode) (parts : SlotParts) → material_refusal payload_mode parts ≡ None
+    → IsSmall parts
+unfolding material_refusal
+material_small payload_mode parts none =
+    let all = none_holds (material_reasons payload_mode parts) none in
+    let keys = key_sizes_few parts.area_mode payload_mode parts.area_key_bytes parts.key_bytes
+    (not-false _ all.1.1.0) in
+    record { stripes = stripes_few parts.stripes all.1.1.1.0; key = keys.1; area_key = keys.0 }
+
+-- a salt that Argon2 allows
+abbrev pub IsSaltFor : Derivation → List ℕ → Type 0
+IsSaltFor (Pbkdf2 hash iterations) salt = Unit {0}
+IsSaltFor (Argon2 parameters) salt = length salt < 2 ^ 32
+
+-- if there is no reason to skip a slot because of the function that derives its key, that function may be used
+allowed : (limits : Limits) (slot : Data) → form_refusal limits slot ≡ None
+    → has_known_hash (kdf2_of slot) ≡ true → is_allowed limits (kdf2_of slot) ≡ true
+unfolding form_refusal kdf2_of variant_of
+allowed limits slot none known =
+    let all = none_holds (form_reasons limits slot) none in
+    by (is_kdf_type (codes "argon2i") slot) (is_kdf_type (codes "argon2id") slot) all.1.1.0 all.1.1.1.0 known
+  where
+    some : (o : Option Argon2Limits) → (is_none o && true) ≡ false → is_some o ≡ true
+    some None is = absurd cc
+    some (Some limits) is = refl
+
+    by : (first second : Bool) → (is_none limits.argon2 && first) ≡ false → (is_none limits.argon2 && second) ≡ false
+        → has_known_hash (derivation_by (variant_if first second) slot) ≡ true
+        → is_allowed limits (derivation_by (variant_if first second) slot) ≡ true
+    by true second closed closed' h = some limits.argon2 closed
+    by false true closed closed' h = some limits.argon2 closed'
+    by false false closed closed' h = h
+
+-- and its salt is one that Argon2 allows, if it is Argon2
+short_salt : (limits : Limits) (slot : Data) → form_refusal limits slot ≡ None
+    → IsSaltFor (kdf2_of slot) (unwrap_or (in_member (codes "kdf") (base64_member (codes "salt")) slot) [])
+unfolding form_refusal kdf2_of is_argon2
+short_salt limits slot none =
+    let all = none_holds (form_reasons limits slot) none in
+    by (variant_of slot) all.1.1.1.1.1.0
+  where
+    of_salt : (salt : Option (List ℕ))
+        → option_map_or (λ len. nat_lt len (2 ^ 32)) (option_map (λ (salt : List ℕ). length salt) salt) false ≡ true
+        → length (unwrap_or salt []) < 2 ^ 32
+    of_salt None is = absurd cc
+    of_salt (Some salt) is = ltb-true (length salt) (2 ^ 32) is
+
+    of_kdf : (kdf : Option Data) → unwrap_or (option_map is_argon2 kdf) false ≡ true
+        → length (unwrap_or (option_and_then (base64_member (codes "salt")) kdf) []) < 2 ^ 32
+    of_kdf None is = absurd cc
+    of_kdf (Some kdf) is =
+        of_salt (base64_member (codes "salt") kdf) (and_parts _ _ (and_parts _ _ (and_parts _ _ is).0).0).0
+
+    by : (variant : Option Variant) → (is_some variant && not (passes (codes "kdf") is_argon2 slot)) ≡ false
+        → IsSaltFor (derivation_by variant slot)
+        (unwrap_or (in_member (codes "kdf") (base64_member (codes "salt")) slot) [])
+    by None lacks = tt
+    by (Some variant) lacks = of_kdf (get (codes "kdf") slot) (not-false _ lacks)
+
+-- what is needed to open the slot agrees with the header and the limits: its key may be derived in its way, its hash
+-- functions and its area's mode are known, its keys have valid lengths for their modes, its key material is before the
+-- payload, and its digest is that of its number
+pub record IsOf2 (tree : Data) (bounds : Bounds) (limits : Limits) (number : ℕ) (usable : Slot) : Type 0 where
+  pub kdf : is_allowed limits usable.parts.derivation ≡ true
+  pub salt : IsSaltFor usable.parts.derivation usable.parts.salt
   pub af : (hash : Hash) × (usable.parts.af_hash ≡ Some hash)
   pub area : (mode : Mode) × (usable.parts.area_mode ≡ Some mode)
       × (is_mode_key_length mode usable.parts.area_key_bytes ≡ true)
@@ -127,114 +221,133 @@ pub record IsOf2 (tree : Data) (bounds : Bounds) (number : ℕ) (usable : Slot) 
   pub before_payload : exceeds (payload2_start tree bounds) (material_end usable.parts) ≡ false
   pub digest : digest2_for tree number ≡ Some usable.digest
 
-module _ (tree : Data) (bounds : Bounds) (limit : Option ℕ) (number : ℕ) (slot : Data) where
-  pub no_reason : reason2_of tree bounds limit number slot ≡ None
-      → NoReason tree bounds limit number (slot_parts2_of slot)
+module _ (tree : Data) (bounds : Bounds) (limits : Limits) (number : ℕ) (slot : Data) where
+  -- the parts of the table of which none holds
+  tables : reason2_of tree bounds limits number slot ≡ None
+      → (form_refusal limits slot ≡ None)
+      × (material_refusal (payload_mode2_of tree bounds) (slot_parts2_of slot) ≡ None)
+      × (derivation_refusal limits (slot_parts2_of slot).derivation ≡ None)
+      × (place_refusal tree bounds limits.max_iterations number (slot_parts2_of slot) ≡ None)
   unfolding reason2_of
+  tables none =
+      let form = none_of_both _ _ none in
+      let material = none_of_both _ _ form.1 in
+      let derivation = none_of_both _ _ material.1 in
+      (form.0, material.0, derivation.0, derivation.1)
+
+  pub no_reason : reason2_of tree bounds limits number slot ≡ None
+      → NoReason tree bounds limits number (slot_parts2_of slot)
+  unfolding material_refusal place_refusal
   no_reason none =
-      let all = none_holds (slot_reasons tree bounds limit number slot (slot_parts2_of slot)) none in
+      let all = tables none in
+      let parts = slot_parts2_of slot in
+      let material = none_holds (material_reasons (payload_mode2_of tree bounds) parts) all.1 in
+      let place = none_holds (place_reasons tree bounds limits.max_iterations number parts) all.3 in
       record {
-        hash = all.1.1.1.1.1.0;
-        encryption = all.1.1.1.1.1.1.0;
-        key_size = all.1.1.1.1.1.1.1.0;
-        stripes = all.1.1.1.1.1.1.1.1.0;
-        iterations = all.1.1.1.1.1.1.1.1.1.0;
-        area = all.1.1.1.1.1.1.1.1.1.1.0;
-        digest = all.1.1.1.1.1.1.1.1.1.1.1.0;
+        hash = material.0;
+        encryption = material.1.0;
+        key_size = material.1.1.0;
+        stripes = material.1.1.1.0;
+        derivation = all.2;
+        area = place.0;
+        digest = place.1.0;
       }
 
   -- its numbers are in range
-  pub range_of : NoReason tree bounds limit number (slot_parts2_of slot) → are_in_range (slot_parts2_of slot) ≡ true
-  unfolding is_in_range iterations_out_of_range stripes_out_of_range area_out_of_range
+  pub range_of : NoReason tree bounds limits number (slot_parts2_of slot) → are_in_range (slot_parts2_of slot) ≡ true
+  unfolding is_in_range stripes_out_of_range area_out_of_range
   range_of none =
       let area = none.area in
       let stripes = none.stripes in
-      let iterations = none.iterations in
-      grind (arith, nat_tests)
-
-  no_reason_none : reason2_of tree bounds limit number slot ≡ None → reason2_of tree bounds None number slot ≡ None
-  unfolding reason2_of
-  no_reason_none none =
-      let all = none_holds (slot_reasons tree bounds limit number slot (slot_parts2_of slot)) none in
-      let no = no_reason none in
-      rw (
-        all.0,
-        all.1.0,
-        all.1.1.0,
-        all.1.1.1.0,
-        all.1.1.1.1.0,
-        no.hash,
-        no.encryption,
-        no.key_size,
-        no.stripes,
-        iterations_in_range_without_limit limit (slot_parts2_of slot).iterations no.iterations,
-        no.area,
-        usable_digest_without_limit limit (digest2_for tree number) no.digest,
-      ) refl
+      let derivable = derivable_if limits (slot_parts2_of slot).derivation none.derivation in
+      rw derivable (grind (arith, nat_tests))
 
   -- what is needed to open it is present, with the digest
-  pub slot_there : reason2_of tree bounds limit number slot ≡ None
+  pub slot_there : reason2_of tree bounds limits number slot ≡ None
       → (digest : KeyDigest) × (digest2_for tree number ≡ Some digest)
       × (is : are_in_range (slot_parts2_of slot) ≡ true)
-      × (slot2_of tree bounds number slot ≡ Some (slot_of (slot_parts2_of slot) digest is))
+      × (slot2_of tree bounds limits number slot ≡ Some (slot_of (slot_parts2_of slot) digest is))
   unfolding slot2_of
   slot_there none =
       let all = no_reason none in
-      let there = digest_there limit (digest2_for tree number) all.digest in
+      let there = digest_there limits.max_iterations (digest2_for tree number) all.digest in
       let is = range_of all in
       let made : slot_from (slot_parts2_of slot) (digest2_for tree number)
       ≡ Some (slot_of (slot_parts2_of slot) there.0 is) =
       ap (slot_from (slot_parts2_of slot)) there.1 ∙ slot_from-yes (slot_parts2_of slot) there.0 is in
-      (there.0, there.1, is, rw (no_reason_none none) made)
+      (there.0, there.1, is, rw none made)
 
   -- the verdict on it, without what is needed to open it
-  pub usable_verdict : reason2_of tree bounds limit number slot ≡ None
-      → verdict_kind_of (verdict2_of tree bounds limit number slot) ≡ KindUsable (slot_parts2_of slot).priority
+  pub usable_verdict : reason2_of tree bounds limits number slot ≡ None
+      → verdict_kind_of (verdict2_of tree bounds limits number slot) ≡ KindUsable (slot_parts2_of slot).priority
   unfolding verdict2_of slot_of
   usable_verdict none =
       let there = slot_there none in
       rw (none, there.3) refl
 
-  pub small_of : reason2_of tree bounds limit number slot ≡ None → IsSmall (slot_parts2_of slot)
-  small_of none =
-      let parts = slot_parts2_of slot in
-      let no = no_reason none in
-      let range = in_range parts.iterations parts.stripes (material_end parts) (range_of no) in
-      let keys = key_sizes_few parts.area_mode (payload_mode2_of tree bounds) parts.area_key_bytes parts.key_bytes
-      (not-false _ no.key_size) in
-      record { iterations = range.few_iterations; stripes = range.few_stripes; key = keys.1; area_key = keys.0 }
+  pub small_of : reason2_of tree bounds limits number slot ≡ None → IsSmall (slot_parts2_of slot)
+  small_of none = material_small (payload_mode2_of tree bounds) (slot_parts2_of slot) (tables none).1
 
   -- if the verdict is that the slot can be tried, this is what is needed to open it, and it agrees with the header
-  usable_is : (usable : Slot) → verdict2_of tree bounds limit number slot ≡ Usable usable
-      → IsOf2 tree bounds number usable × (slot2_of tree bounds number slot ≡ Some usable)
-  unfolding verdict2_of slot_of area_out_of_range
+  usable_is : (usable : Slot) → verdict2_of tree bounds limits number slot ≡ Usable usable
+      → IsOf2 tree bounds limits number usable × (slot2_of tree bounds limits number slot ≡ Some usable)
+  unfolding verdict2_of slot_of area_out_of_range slot_parts2_of
   usable_is usable is =
       let parts = slot_parts2_of slot in
-      let verdict = of_usable (reason2_of tree bounds limit number slot) (slot2_of tree bounds number slot) usable is in
+      let verdict = of_usable (reason2_of tree bounds limits number slot)
+      (slot2_of tree bounds limits number slot) usable is in
       let no = no_reason verdict.0 in
+      let form = (tables verdict.0).0 in
       let there = slot_there verdict.0 in
       let same : usable ≡ slot_of parts there.0 there.2 = same_Some _ _ (sym verdict.1 ∙ there.3) in
       let hashes = or_parts _ _ no.hash in
       let sizes = and_parts _ _ (not-false _ no.key_size) in
       let past = or_parts _ _ no.area in
       let before = or_parts _ _ past.0 in
-      let known : IsOf2 tree bounds number (slot_of parts there.0 there.2) = record {
-        kdf = some_from_not_none parts.kdf_hash hashes.0;
+      let known : IsOf2 tree bounds limits number (slot_of parts there.0 there.2) = record {
+        kdf = allowed limits slot form (not-false _ hashes.0);
+        salt = short_salt limits slot form;
         af = some_from_not_none parts.af_hash hashes.1;
         area = known_area parts.area_mode parts.area_key_bytes no.encryption sizes.0;
         volume_key = sizes.1;
         before_payload = before.1;
         digest = there.1;
       } in
-      (subst (IsOf2 tree bounds number) (sym same) known, verdict.1)
+      (subst (IsOf2 tree bounds limits number) (sym same) known, verdict.1)
 
 -- the same for the slot with a number
-pub usable2_at : (tree : Data) (bounds : Bounds) (limit : Option ℕ) (number : ℕ) (usable : Slot)
-    → verdict2_at tree bounds limit number ≡ Some (Usable usable)
-    → IsOf2 tree bounds number usable × (slot2_at tree bounds number ≡ Some usable)
+pub usable2_at : (tree : Data) (bounds : Bounds) (limits : Limits) (number : ℕ) (usable : Slot)
+    → verdict2_at tree bounds limits number ≡ Some (Usable usable)
+    → IsOf2 tree bounds limits number usable × (slot2_at tree bounds limits number ≡ Some usable)
 unfolding verdict2_at slot2_at
-usable2_at tree bounds limit number usable is =
-    let slot = mapped (verdict2_of tree bounds limit number) (object_numbered (codes "keyslots") tree number)
+usable2_at tree bounds limits number usable is =
+    let slot = mapped (verdict2_of tree bounds limits number) (object_numbered (codes "keyslots") tree number)
     (Usable usable) is in
-    let known = usable_is tree bounds limit number slot.0 usable slot.2 in
-    (known.0, ap (option_and_then (slot2_of tree bounds number)) slot.1 ∙ known.1)
+    let known = usable_is tree bounds limits number slot.0 usable slot.2 in
+    (known.0, ap (option_and_then (slot2_of tree bounds limits number)) slot.1 ∙ known.1)
+
+-- what is needed to open a slot that can be tried is made from its parts and its digest, whatever the limits are
+made2_at : (tree : Data) (bounds : Bounds) (limits : Limits) (number : ℕ) (usable : Slot)
+    → verdict2_at tree bounds limits number ≡ Some (Usable usable)
+    → option_and_then (λ slot. slot_from (slot_parts2_of slot) (digest2_for tree number))
+    (object_numbered (codes "keyslots") tree number) ≡ Some usable
+unfolding verdict2_at slot2_of
+made2_at tree bounds limits number usable is =
+    let slot = mapped (verdict2_of tree bounds limits number) (object_numbered (codes "keyslots") tree number)
+    (Usable usable) is in
+    let known = usable_is tree bounds limits number slot.0 usable slot.2 in
+    ap (option_and_then (λ slot. slot_from (slot_parts2_of slot) (digest2_for tree number))) slot.1
+    ∙ by (is_none (reason2_of tree bounds limits number slot.0)) slot.0 known.1
+  where
+    by : (test : Bool) (slot : Data)
+        → (if test then slot_from (slot_parts2_of slot) (digest2_for tree number) else None) ≡ Some usable
+        → slot_from (slot_parts2_of slot) (digest2_for tree number) ≡ Some usable
+    by true slot h = h
+    by false slot h = absurd cc
+
+pub same_slot2 : (tree : Data) (bounds : Bounds) (limits limits' : Limits) (number : ℕ) (usable usable' : Slot)
+    → verdict2_at tree bounds limits number ≡ Some (Usable usable)
+    → verdict2_at tree bounds limits' number ≡ Some (Usable usable') → usable ≡ usable'
+same_slot2 tree bounds limits limits' number usable usable' is is' =
+    same_Some _ _ (sym (made2_at tree bounds limits number usable is)
+    ∙ made2_at tree bounds limits' number usable' is')

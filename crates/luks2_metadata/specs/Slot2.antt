@@ -2,19 +2,23 @@
 use Rattle.std.specs.Prelude.{ℕ, ◌&&◌, ◌||◌, not, nat_le, Bool, List, [], ◌∷◌, Option, Some, None, codes, is_none}
 use Rattle.std.specs.Prelude.{is_some, if◌then◌else◌, option_and_then, option_map, unwrap_or}
 use Rattle.luks_cipher.specs.declared.mode.Mode.{Mode}
-use Rattle.luks_verdict.specs.Rule.{iterations_out_of_range, area_out_of_range, stripes_out_of_range, key_material_len}
+use Rattle.std.specs.Option.{option_or}
+use Rattle.luks_verdict.specs.Derivation.{derivation_refusal, has_known_hash}
+use Rattle.luks_verdict.specs.Rule.{area_out_of_range, stripes_out_of_range, key_material_len}
 use Rattle.luks_verdict.specs.Slot.{has_no_usable_digest, slot_from, verdict_by}
 use Rattle.luks_verdict.specs.Table.{first_match}
 use Rattle.luks_verdict.specs.declared.refusal.SkipReason.{SkipReason}
 use Rattle.luks_verdict.specs.declared.refusal.SkipReason.TheVariants.{Kind, Member, Argon2i, Argon2id, Kdf}
 use Rattle.luks_verdict.specs.declared.refusal.SkipReason.TheVariants.{Hash as SkipHash, Encryption, KeySize}
-use Rattle.luks_verdict.specs.declared.refusal.SkipReason.TheVariants.{Stripes, Iterations, Area, Digest}
+use Rattle.luks_verdict.specs.declared.refusal.SkipReason.TheVariants.{Stripes, Area, Digest}
+use Rattle.luks_verdict.specs.declared.derivation.Limits.{Limits}
 use Rattle.luks_verdict.specs.declared.slot.Slot.{Slot}
 use Rattle.luks_verdict.specs.declared.slot.SlotParts.{SlotParts}
 use Rattle.luks_verdict.specs.declared.slot.Verdict.{Verdict}
 use Rattle.luks2_json.specs.Member.{base64_member, decimal_member, has, is_type, passes, string_member, integer_member}
 use Rattle.luks2_json.specs.Member.{in_member, hash_member, is_length_for, encryption_mode}
 use Rattle.luks2_metadata.specs.Digest2.{digest2_for}
+use Rattle.luks2_metadata.specs.Kdf2.{kdf2_of, is_argon2, is_kdf_type, variant_of}
 use Rattle.luks2_json.specs.Numbered.{object_numbered}
 use Rattle.luks2_metadata.specs.declared.bounds.Bounds.{Bounds}
 use Rattle.luks2_metadata.specs.declared.slot.values.SlotValues.{SlotValues}
@@ -45,7 +49,7 @@ is_area area =
     && is_some (string_member (codes "encryption") area)
     && is_some (integer_member (codes "key_size") area)
 
--- the object has all parameters of PBKDF2, the only key derivation function whose members are checked
+-- the object has all parameters of PBKDF2
 unfoldable pub is_pbkdf2 : Data → Bool
 is_pbkdf2 kdf =
     is_some (string_member (codes "hash") kdf)
@@ -56,7 +60,7 @@ is_pbkdf2 kdf =
 unfoldable pub is_kdf : Data → Bool
 is_kdf kdf = is_some (string_member (codes "type") kdf) && (not (is_type (codes "pbkdf2") kdf) || is_pbkdf2 kdf)
 
--- every member of the key slot is present and of the right type
+-- every member of the key slot is present and of the right type, except for those of Argon2
 unfoldable pub has_members : Data → Bool
 has_members slot =
     is_some (integer_member (codes "key_size") slot)
@@ -67,17 +71,12 @@ has_members slot =
 
 -- ---- the values of the members
 
--- the slot's key derivation function is of this type
-abbrev pub is_kdf_type : List ℕ → Data → Bool
-is_kdf_type type slot = passes (codes "kdf") (is_type type) slot
-
 -- the values of a slot's members. Each is 0, no bytes or `None` if the member is missing, of another type or, as a
 -- hash function or mode, not known; but a slot without a priority has priority 1
 unfoldable pub slot_parts2_of : Data → SlotParts
 slot_parts2_of slot = record {
   priority = unwrap_or (priority_of slot) 0;
-  kdf_hash = in_member (codes "kdf") hash_member slot;
-  iterations = unwrap_or (in_member (codes "kdf") (integer_member (codes "iterations")) slot) 0;
+  derivation = kdf2_of slot;
   salt = unwrap_or (in_member (codes "kdf") (base64_member (codes "salt")) slot) [];
   af_hash = in_member (codes "af") hash_member slot;
   stripes = unwrap_or (in_member (codes "af") (integer_member (codes "stripes")) slot) 0;
@@ -92,8 +91,7 @@ slot_parts2_of slot = record {
 unfoldable pub values_of : SlotParts → SlotValues
 values_of parts = record {
   priority = parts.priority;
-  kdf_hash = parts.kdf_hash;
-  iterations = parts.iterations;
+  derivation = parts.derivation;
   af_hash = parts.af_hash;
   stripes = parts.stripes;
   key_bytes = parts.key_bytes;
@@ -116,49 +114,75 @@ abbrev pub area2_out_of_range : ℕ → Option ℕ → SlotParts → Bool
 area2_out_of_range end payload parts =
     area_out_of_range end payload parts.area_offset parts.area_size (key_material_len parts.key_bytes parts.stripes)
 
--- the reasons to skip the slot of this number, whose members have these values, in a header with these bounds
-abbrev pub slot_reasons : Data → Bounds → Option ℕ → ℕ → Data → SlotParts → List (Bool × SkipReason)
-slot_reasons tree bounds limit number slot parts =
+-- the reasons to skip a slot because of what it is and of the function that derives its key. Without limits for Argon2 no
+-- key is derived by it
+abbrev pub form_reasons : Limits → Data → List (Bool × SkipReason)
+form_reasons limits slot =
     (not (is_type (codes "luks2") slot), Kind)
     ∷ (not (has_members slot), Member)
-    ∷ (is_kdf_type (codes "argon2i") slot, Argon2i)
-    ∷ (is_kdf_type (codes "argon2id") slot, Argon2id)
-    ∷ (not (is_kdf_type (codes "pbkdf2") slot), Kdf)
-    ∷ (is_none parts.kdf_hash || is_none parts.af_hash, SkipHash)
-    ∷ (is_none parts.area_mode, Encryption)
-    ∷ (not (are_key_sizes (payload_mode2_of tree bounds) parts), KeySize)
-    ∷ (stripes_out_of_range parts.stripes, Stripes)
-    ∷ (iterations_out_of_range limit parts.iterations, Iterations)
-    ∷ (area2_out_of_range bounds.end (payload2_start tree bounds) parts, Area)
-    ∷ (has_no_usable_digest limit (digest2_for tree number), Digest)
+    ∷ (is_none limits.argon2 && is_kdf_type (codes "argon2i") slot, Argon2i)
+    ∷ (is_none limits.argon2 && is_kdf_type (codes "argon2id") slot, Argon2id)
+    ∷ (is_none (variant_of slot) && not (is_kdf_type (codes "pbkdf2") slot), Kdf)
+    ∷ (is_some (variant_of slot) && not (passes (codes "kdf") is_argon2 slot), Member)
     ∷ []
 
--- the first reason to skip the slot
-unfoldable pub reason2_of : Data → Bounds → Option ℕ → ℕ → Data → Option SkipReason
-reason2_of tree bounds limit number slot =
-    first_match (slot_reasons tree bounds limit number slot (slot_parts2_of slot))
+-- the first of them
+unfoldable pub form_refusal : Limits → Data → Option SkipReason
+form_refusal limits slot = first_match (form_reasons limits slot)
+
+-- the reasons because of the hash functions, the modes, the keys and the stripes
+abbrev pub material_reasons : Option Mode → SlotParts → List (Bool × SkipReason)
+material_reasons payload_mode parts =
+    (not (has_known_hash parts.derivation) || is_none parts.af_hash, SkipHash)
+    ∷ (is_none parts.area_mode, Encryption)
+    ∷ (not (are_key_sizes payload_mode parts), KeySize)
+    ∷ (stripes_out_of_range parts.stripes, Stripes)
+    ∷ []
+
+-- the first of them
+unfoldable pub material_refusal : Option Mode → SlotParts → Option SkipReason
+material_refusal payload_mode parts = first_match (material_reasons payload_mode parts)
+
+-- the reasons because of the area of the slot of this number, and of its digest
+abbrev pub place_reasons : Data → Bounds → Option ℕ → ℕ → SlotParts → List (Bool × SkipReason)
+place_reasons tree bounds max_iterations number parts =
+    (area2_out_of_range bounds.end (payload2_start tree bounds) parts, Area)
+    ∷ (has_no_usable_digest max_iterations (digest2_for tree number), Digest)
+    ∷ []
+
+-- the first of them
+unfoldable pub place_refusal : Data → Bounds → Option ℕ → ℕ → SlotParts → Option SkipReason
+place_refusal tree bounds max_iterations number parts = first_match (place_reasons tree bounds max_iterations number parts)
+
+-- the first reason to skip the slot of this number, in a header with these bounds
+unfoldable pub reason2_of : Data → Bounds → Limits → ℕ → Data → Option SkipReason
+reason2_of tree bounds limits number slot =
+    let parts = slot_parts2_of slot in
+    option_or (form_refusal limits slot)
+    (option_or (material_refusal (payload_mode2_of tree bounds) parts)
+    (option_or (derivation_refusal limits parts.derivation)
+    (place_refusal tree bounds limits.max_iterations number parts)))
 
 -- ---- verdicts
 
--- what is needed to open the slot with this number, unless there is a reason to skip it other than a limit on
--- iterations
-unfoldable pub slot2_of : Data → Bounds → ℕ → Data → Option Slot
-slot2_of tree bounds number slot =
-    if is_none (reason2_of tree bounds None number slot) then slot_from (slot_parts2_of slot) (digest2_for tree number)
+-- what is needed to open the slot of this number, unless there is a reason to skip it
+unfoldable pub slot2_of : Data → Bounds → Limits → ℕ → Data → Option Slot
+slot2_of tree bounds limits number slot =
+    if is_none (reason2_of tree bounds limits number slot)
+    then slot_from (slot_parts2_of slot) (digest2_for tree number)
     else None
 
 -- the verdict on the slot of this number
-unfoldable pub verdict2_of : Data → Bounds → Option ℕ → ℕ → Data → Verdict
-verdict2_of tree bounds limit number slot =
-    verdict_by (reason2_of tree bounds limit number slot) (slot2_of tree bounds number slot)
+unfoldable pub verdict2_of : Data → Bounds → Limits → ℕ → Data → Verdict
+verdict2_of tree bounds limits number slot =
+    verdict_by (reason2_of tree bounds limits number slot) (slot2_of tree bounds limits number slot)
 
 -- the verdict on the key slot of this number, if there is one
-unfoldable pub verdict2_at : Data → Bounds → Option ℕ → ℕ → Option Verdict
-verdict2_at tree bounds limit number =
-    option_map (verdict2_of tree bounds limit number) (object_numbered (codes "keyslots") tree number)
+unfoldable pub verdict2_at : Data → Bounds → Limits → ℕ → Option Verdict
+verdict2_at tree bounds limits number =
+    option_map (verdict2_of tree bounds limits number) (object_numbered (codes "keyslots") tree number)
 
--- what is needed to open the key slot with this number, unless there is a reason to skip it other than a limit on
--- iterations
-unfoldable pub slot2_at : Data → Bounds → ℕ → Option Slot
-slot2_at tree bounds number =
-    option_and_then (slot2_of tree bounds number) (object_numbered (codes "keyslots") tree number)
+-- what is needed to open the key slot of this number, unless there is a reason to skip it
+unfoldable pub slot2_at : Data → Bounds → Limits → ℕ → Option Slot
+slot2_at tree bounds limits number =
+    option_and_then (slot2_of tree bounds limits number) (object_numbered (codes "keyslots") tree number)

@@ -2,23 +2,25 @@
 
 ghost use Rattle.std.specs.Prelude.{◌≡◌, ◌≤◌, ◌&&◌, [], codes, IfOk, option_map, unwrap_or};
 ghost use Rattle.luks_verdict.specs.Rule.{area_out_of_range, key_material_len};
-ghost use Rattle.luks_verdict.specs.Rule.{max_iteration_count};
 ghost use Rattle.luks_verdict.specs.Slot.{has_no_usable_digest, verdict_kind_of};
 ghost use Rattle.luks2_json.specs.Member.{base64_member, in_member, is_length_for};
 ghost use Rattle.luks2_metadata.specs.Digest2.{digest2_for};
-ghost use Rattle.luks2_metadata.specs.Slot2.{is_kdf_type, reason2_of};
+ghost use Rattle.luks2_metadata.specs.Slot2.{form_refusal, material_refusal, reason2_of};
 ghost use Rattle.luks2_metadata.specs.Slot2.{slot2_at, slot2_of, slot_parts2_of};
 ghost use Rattle.luks2_metadata.specs.Slot2.{values_of, verdict2_at, verdict2_of};
 ghost use Rattle.serde_json.specs.View.{view as data_of};
 
+mod derivation;
 mod members;
 pub mod values;
 
 use crate::bounds::Bounds;
 use crate::digest::{digest_for, digest_iterations_for};
 use crate::segment::find_payload;
+use derivation::{has_argon2, is_kdf_type, variant};
 use luks_cipher::Mode;
 use luks_verdict::bytes::HeaderBytes;
+use luks_verdict::derivation::Limits;
 use luks_verdict::refusal::SkipReason;
 use luks_verdict::rule::{
     area_out_of_range, iterations_out_of_range, key_material_len, stripes_out_of_range,
@@ -33,16 +35,6 @@ use members::has_members;
 use serde_json::Value;
 use std::alloc::{AllocError, Global};
 use values::{SlotValues, slot_values};
-
-// The slot's key derivation function is of this type.
-fn is_kdf_type(slot: &Value, expected: &str) -> bool
-    ensures { result ≡ is_kdf_type expected.now (data_of slot.now) }
-{
-    match slot.get("kdf") {
-        Some(kdf) => is_type(kdf, expected),
-        None => false,
-    }
-}
 
 // The slot's keys have valid lengths for their modes.
 fn are_key_sizes(payload_mode: Option<Mode>, slot: SlotValues) -> bool
@@ -81,43 +73,79 @@ fn has_no_usable_digest(tree: &Value, limit: Option<u32>, number: u8) -> bool
     }
 }
 
+// The first reason to skip a slot because of what it is, and of the function that derives its key.
+#[tactic(auto, unfolding(crate::specs::Slot2::form_refusal))]
+fn form_refusal(limits: Limits, slot: &Value) -> Option<SkipReason>
+    ensures { result ≡ form_refusal limits (data_of slot.now) }
+{
+    let no_argon2 = limits.argon2.is_none();
+    let variant = variant(slot);
+    if !is_type(slot, "luks2") {
+        Some(SkipReason::Kind)
+    } else if !has_members(slot) {
+        Some(SkipReason::Member)
+    } else if no_argon2 && is_kdf_type(slot, "argon2i") {
+        Some(SkipReason::Argon2i)
+    } else if no_argon2 && is_kdf_type(slot, "argon2id") {
+        Some(SkipReason::Argon2id)
+    } else if variant.is_none() && !is_kdf_type(slot, "pbkdf2") {
+        Some(SkipReason::Kdf)
+    } else if variant.is_some() && !has_argon2(slot) {
+        Some(SkipReason::Member)
+    } else {
+        None
+    }
+}
+
+// The first reason because of the hash functions, the modes, the keys and the stripes.
+#[tactic(auto, unfolding(crate::specs::Slot2::material_refusal, crate::specs::Slot2::values_of))]
+fn material_refusal(
+    slot: &Value,
+    payload_mode: Option<Mode>,
+    values: SlotValues,
+) -> Option<SkipReason>
+    requires { values ≡ values_of (slot_parts2_of (data_of slot.now)) }
+    ensures { result ≡ material_refusal payload_mode (slot_parts2_of (data_of slot.now)) }
+{
+    if !values.derivation.has_known_hash() || values.af_hash.is_none() {
+        Some(SkipReason::Hash)
+    } else if values.area_mode.is_none() {
+        Some(SkipReason::Encryption)
+    } else if !are_key_sizes(payload_mode, values) {
+        Some(SkipReason::KeySize)
+    } else if stripes_out_of_range(values.stripes) {
+        Some(SkipReason::Stripes)
+    } else {
+        None
+    }
+}
+
 // The first reason to skip the slot of this number, whose members have these values.
-#[tactic(auto, unfolding(crate::specs::Slot2::reason2_of, crate::specs::Slot2::values_of))]
+#[tactic(auto, unfolding(crate::specs::Slot2::reason2_of, crate::specs::Slot2::place_refusal, crate::specs::Slot2::values_of,))]
 fn reason(
     tree: &Value,
     bounds: Bounds,
-    limit: Option<u32>,
+    limits: Limits,
     number: u8,
     slot: &Value,
     values: SlotValues,
 ) -> Option<SkipReason>
     requires { values ≡ values_of (slot_parts2_of (data_of slot.now)) }
-    ensures { result ≡ reason2_of (data_of tree.now) bounds limit number (data_of slot.now) }
+    ensures { result ≡ reason2_of (data_of tree.now) bounds limits number (data_of slot.now) }
 {
     let payload = find_payload(tree, bounds);
-    if !is_type(slot, "luks2") {
-        Some(SkipReason::Kind)
-    } else if !has_members(slot) {
-        Some(SkipReason::Member)
-    } else if is_kdf_type(slot, "argon2i") {
-        Some(SkipReason::Argon2i)
-    } else if is_kdf_type(slot, "argon2id") {
-        Some(SkipReason::Argon2id)
-    } else if !is_kdf_type(slot, "pbkdf2") {
-        Some(SkipReason::Kdf)
-    } else if values.kdf_hash.is_none() || values.af_hash.is_none() {
-        Some(SkipReason::Hash)
-    } else if values.area_mode.is_none() {
-        Some(SkipReason::Encryption)
-    } else if !are_key_sizes(payload.mode, values) {
-        Some(SkipReason::KeySize)
-    } else if stripes_out_of_range(values.stripes) {
-        Some(SkipReason::Stripes)
-    } else if iterations_out_of_range(limit, values.iterations) {
-        Some(SkipReason::Iterations)
-    } else if is_area_out_of_range(values, bounds.end, payload.start) {
+    if let Some(reason) = form_refusal(limits, slot) {
+        return Some(reason);
+    }
+    if let Some(reason) = material_refusal(slot, payload.mode, values) {
+        return Some(reason);
+    }
+    if let Some(reason) = values.derivation.refusal(limits) {
+        return Some(reason);
+    }
+    if is_area_out_of_range(values, bounds.end, payload.start) {
         Some(SkipReason::Area)
-    } else if has_no_usable_digest(tree, limit, number) {
+    } else if has_no_usable_digest(tree, limits.max_iterations, number) {
         Some(SkipReason::Digest)
     } else {
         None
@@ -129,33 +157,33 @@ fn reason(
 fn slot_verdict_kind(
     tree: &Value,
     bounds: Bounds,
-    limit: Option<u32>,
+    limits: Limits,
     number: u8,
     slot: &Value,
 ) -> VerdictKind
     ensures { result ≡ verdict_kind_of
-        (verdict2_of (data_of tree.now) bounds limit number (data_of slot.now)) }
+        (verdict2_of (data_of tree.now) bounds limits number (data_of slot.now)) }
 {
     let values = slot_values(slot);
-    match reason(tree, bounds, limit, number, slot, values) {
+    match reason(tree, bounds, limits, number, slot, values) {
         Some(reason) => VerdictKind::Skipped(reason),
         None => VerdictKind::Usable(values.priority),
     }
 }
 
 /// The verdict on the key slot of this number, if there is one, in a header with these bounds. A
-/// slot with more iterations than the limit is skipped. This allocates nothing.
+/// slot that costs more than the limits is skipped. This allocates nothing.
 #[tactic(auto, unfolding(crate::specs::Slot2::verdict2_at))]
 pub fn verdict_kind(
     metadata: &Metadata,
     bounds: Bounds,
-    limit: Option<u32>,
+    limits: Limits,
     number: u8,
 ) -> Option<VerdictKind>
-    ensures { result ≡ option_map verdict_kind_of (verdict2_at metadata.now bounds limit number) }
+    ensures { result ≡ option_map verdict_kind_of (verdict2_at metadata.now bounds limits number) }
 {
     let slot = object_numbered(metadata.tree(), "keyslots", number)?;
-    Some(slot_verdict_kind(metadata.tree(), bounds, limit, number, slot))
+    Some(slot_verdict_kind(metadata.tree(), bounds, limits, number, slot))
 }
 
 // The salt of the key derivation, or no bytes if it is missing.
@@ -173,7 +201,6 @@ fn salt(alloc: Global, slot: &Value) -> Result<HeaderBytes, AllocError>
 #[tactic(auto, unfolding(crate::specs::Slot2::slot_parts2_of, crate::specs::Slot2::values_of))]
 fn parts(alloc: Global, slot: &Value, values: SlotValues) -> Result<SlotParts, AllocError>
     requires values { values ≡ values_of (slot_parts2_of (data_of slot.now)) }
-    requires iterations { values.iterations ≤ max_iteration_count }
     requires stripes { values.stripes ≤ 4000 }
     requires key { values.key_bytes ≤ 64 }
     requires area_key { values.area_key_bytes ≤ 64 }
@@ -181,8 +208,7 @@ fn parts(alloc: Global, slot: &Value, values: SlotValues) -> Result<SlotParts, A
 {
     Ok(SlotParts {
         priority: values.priority,
-        kdf_hash: values.kdf_hash,
-        iterations: values.iterations as u32,
+        derivation: values.derivation,
         salt: salt(alloc, slot)?,
         af_hash: values.af_hash,
         stripes: values.stripes as u32,
@@ -194,21 +220,21 @@ fn parts(alloc: Global, slot: &Value, values: SlotValues) -> Result<SlotParts, A
     })
 }
 
-// What is needed to open a slot, unless there is a reason to skip it other than a limit on
-// iterations.
+// What is needed to open a slot, unless there is a reason to skip it.
 #[tactic(auto, unfolding(crate::specs::Slot2::slot2_of))]
 fn slot2_of(
     alloc: Global,
     metadata: &Metadata,
     bounds: Bounds,
+    limits: Limits,
     number: u8,
     slot: &Value,
 ) -> Result<Option<Slot>, AllocError>
     ensures { IfOk result (λ usable. usable
-        ≡ slot2_of metadata.now bounds number (data_of slot.now)) }
+        ≡ slot2_of metadata.now bounds limits number (data_of slot.now)) }
 {
     let values = slot_values(slot);
-    if reason(metadata.tree(), bounds, None, number, slot, values).is_some() {
+    if reason(metadata.tree(), bounds, limits, number, slot, values).is_some() {
         return Ok(None);
     }
     let parts = parts(alloc, slot, values)?;
@@ -216,18 +242,19 @@ fn slot2_of(
 }
 
 /// What is needed to open the key slot with this number in a header with these bounds, if there is
-/// such a slot and no reason to skip it other than a limit on iterations.
+/// such a slot and no reason to skip it.
 #[tactic(auto, unfolding(crate::specs::Slot2::slot2_at))]
 pub fn slot(
     alloc: Global,
     metadata: &Metadata,
     bounds: Bounds,
+    limits: Limits,
     number: u8,
 ) -> Result<Option<Slot>, AllocError>
-    ensures { IfOk result (λ usable. usable ≡ slot2_at metadata.now bounds number) }
+    ensures { IfOk result (λ usable. usable ≡ slot2_at metadata.now bounds limits number) }
 {
     match object_numbered(metadata.tree(), "keyslots", number) {
-        Some(slot) => slot2_of(alloc, metadata, bounds, number, slot),
+        Some(slot) => slot2_of(alloc, metadata, bounds, limits, number, slot),
         None => Ok(None),
     }
 }

@@ -204,8 +204,8 @@ slot_derivation2 slot = unwrap_or (option_map derivation2_of (get (codes "kdf") 
 unfoldable pub strength2_of : Data → SlotStrength
 strength2_of slot = record {
   derivation = slot_derivation2 slot;
-  kdf_hash = (slot_parts2_of slot).kdf_hash;
-  iterations = (slot_parts2_of slot).iterations;
+  kdf_hash = in_member (codes "kdf") hash_member slot;
+  iterations = unwrap_or (in_member (codes "kdf") (integer_member (codes "iterations")) slot) 0;
   memory = unwrap_or (in_member (codes "kdf") (integer_member (codes "memory")) slot) 0;
   af_hash = (slot_parts2_of slot).af_hash;
   is_cbc = names_cbc (in_member (codes "area") (string_member (codes "encryption")) slot);

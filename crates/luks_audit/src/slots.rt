@@ -11,6 +11,7 @@ ghost use Rattle.serde_json.specs.View.{view as data_of};
 
 use crate::tree::{Array, Object, Tree};
 use crate::{luks1, luks2};
+use luks_header::derivation::Limits;
 use luks_header::header::{Header, Header1, StoredSlot};
 use luks_header::slot::verdict_kind;
 use luks_verdict::rule::MAX_SLOTS;
@@ -164,7 +165,7 @@ fn push_slot(
 ) -> Result<(), AllocError>
     ensures { OnOk result (slots.new ≡ slots.old ++ slot_values header.now number) }
 {
-    match verdict_kind(header, None, number) {
+    match verdict_kind(header, Limits::without_argon2(None), number) {
         Some(kind) => slots.push(slot_tree(alloc, header, number, kind)?),
         None => Ok(()),
     }

@@ -7,6 +7,7 @@ use Rattle.std.proofs.Math.Nat.{zero-div}
 use Rattle.luks_header.specs.Header.{header_read_len, header_of}
 use Rattle.luks_header.proofs.KnownLemmas.{is_attached}
 use Rattle.luks_verdict.specs.declared.segment.Segment.{Segment}
+use Rattle.luks_verdict.specs.Derivation.{without_argon2}
 use Rattle.luks_key_slots.proofs.CallerLemmas.{key_areas_before_payload}
 use Rattle.luks_key_slots.specs.Fault.{aborts_opening, has_fault, is_untried}
 use Rattle.luks_kdf.specs.Pbkdf2.{capped}
@@ -86,7 +87,7 @@ before_payload slots image pass segment (header, found, is_segment) =
         → (opening_after image pass (result_map_both (volume_with header segment) Slots r)).consumed
         ≤ max (header_read_len image) segment.offset
     by (Ok order) ordered =
-        let few = key_areas_before_payload header segment slots.named slots.max_iterations order
+        let few = key_areas_before_payload header segment slots.named (without_argon2 slots.max_iterations) order
         (is_attached image header found) is_segment ordered in
         omega (arith, few, (found_within (volume_with header segment order) image pass).1)
     by (Err fault) ordered = omega arith

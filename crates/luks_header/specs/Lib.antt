@@ -4,6 +4,7 @@ pub mod HeaderSegment
 pub mod SlotVerdicts
 pub use Rattle.luks_header_area.specs.Area
 pub use Rattle.luks_header_area.specs.Fields
+pub use Rattle.luks_verdict.specs.Derivation
 pub use Rattle.luks_verdict.specs.Rule
 pub use Rattle.luks_verdict.specs.SectorSize
 pub use Rattle.luks_verdict.specs.SegmentFault

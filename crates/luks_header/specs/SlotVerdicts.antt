@@ -1,7 +1,9 @@
 -- The verdicts on the key slots of a header: whether each can be tried, and if not, why.
-use Rattle.std.specs.Prelude.{ℕ, Bool, true, false, List, Option, Some, option_map}
+use Rattle.std.specs.Prelude.{ℕ, Bool, true, false, List, Option, Some, None, option_map}
+use Rattle.luks_verdict.specs.Derivation.{without_argon2}
 use Rattle.luks_verdict.specs.Rule.{max_slots}
 use Rattle.luks_verdict.specs.Table.{ascending}
+use Rattle.luks_verdict.specs.declared.derivation.Limits.{Limits}
 use Rattle.luks_verdict.specs.declared.slot.Slot.{Slot}
 use Rattle.luks_verdict.specs.declared.slot.Verdict.{Verdict}
 use Rattle.luks_verdict.specs.declared.slot.Verdict.TheVariants.{Usable}
@@ -12,10 +14,14 @@ use Rattle.luks_header.specs.Header.{bounds2_of}
 use Rattle.luks_header.specs.declared.header.Header.{Header}
 use Rattle.luks_header.specs.declared.header.Header.TheVariants.{V1, V2}
 
--- the verdict on the key slot of this number, if the header has one
-unfoldable pub verdict_at : Header → Option ℕ → ℕ → Option Verdict
-verdict_at (V1 header) limit number = verdict1_at header limit number
-verdict_at (V2 header tree) limit number = verdict2_at tree (bounds2_of header) limit number
+-- the verdict on the key slot of this number within these limits, if the header has one
+unfoldable pub verdict_within : Header → Limits → ℕ → Option Verdict
+verdict_within (V1 header) limits number = verdict1_at header limits.max_iterations number
+verdict_within (V2 header tree) limits number = verdict2_at tree (bounds2_of header) limits number
+
+-- the verdict without Argon2
+abbrev pub verdict_at : Header → Option ℕ → ℕ → Option Verdict
+verdict_at header limit number = verdict_within header (without_argon2 limit) number
 
 -- a key slot with this verdict can be tried
 abbrev pub can_be_tried : Option Verdict → Bool
@@ -23,11 +29,15 @@ can_be_tried (Some (Usable slot)) = true
 can_be_tried verdict = false
 
 -- what is needed to open the key slot of this number. A LUKS1 slot that exists has it if its numbers are in range and
--- there is a usable digest, whatever its state; a LUKS2 slot that exists has it if there is no reason to skip it except
--- a limit on iterations
-unfoldable pub slot_at : Header → ℕ → Option Slot
-slot_at (V1 header) number = slot1_at header number
-slot_at (V2 header tree) number = slot2_at tree (bounds2_of header) number
+-- there is a usable digest, whatever its state and the limits; a LUKS2 slot that exists has it if there is no reason to
+-- skip it within these limits
+unfoldable pub slot_within : Header → Limits → ℕ → Option Slot
+slot_within (V1 header) limits number = slot1_at header number
+slot_within (V2 header tree) limits number = slot2_at tree (bounds2_of header) limits number
+
+-- the same without Argon2 and without a limit on iterations
+abbrev pub slot_at : Header → ℕ → Option Slot
+slot_at header number = slot_within header (without_argon2 None) number
 
 -- the verdict with the number of its key slot, if there is a verdict
 abbrev pub with_number : ℕ → Option Verdict → Option (ℕ × Verdict)

@@ -14,4 +14,4 @@ pub mod payload;
 pub mod slot;
 
 pub use luks_header_area::{area, fault, text};
-pub use luks_verdict::{bytes, refusal, rule, sector_size, segment};
+pub use luks_verdict::{bytes, derivation, refusal, rule, sector_size, segment};

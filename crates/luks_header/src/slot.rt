@@ -6,9 +6,10 @@ ghost use Rattle.std.specs.List.{cons_option};
 ghost use Rattle.luks_verdict.specs.Rule.{max_slots};
 ghost use Rattle.luks_verdict.specs.Slot.{verdict_kind_of};
 ghost use Rattle.luks_header.specs.SlotVerdicts.{can_be_tried, has_name_out_of_range, with_number};
-ghost use Rattle.luks_header.specs.SlotVerdicts.{slot_at, verdict_at, verdicts_of};
+ghost use Rattle.luks_header.specs.SlotVerdicts.{slot_within, verdict_within, verdicts_of};
 
 use crate::header::{Header, bounds};
+use luks_verdict::derivation::Limits;
 use luks_verdict::refusal::SkipReason;
 use luks_verdict::rule::MAX_SLOTS;
 pub use luks_verdict::slot::{Slot, Verdict, VerdictKind};
@@ -16,41 +17,47 @@ use luks2_json::numbered::has_key_out_of_range;
 use std::alloc::{AllocError, Global};
 
 /// The verdict on the key slot of this number, if the header has one, without what is needed to
-/// open it. A slot with more iterations than the limit is skipped. This allocates nothing.
-#[tactic(auto, unfolding(crate::specs::SlotVerdicts::verdict_at))]
-pub fn verdict_kind(header: &Header, limit: Option<u32>, number: u8) -> Option<VerdictKind>
-    ensures { result ≡ option_map verdict_kind_of (verdict_at header.now limit number) }
+/// open it. A slot that costs more than the limits is skipped. This allocates nothing.
+#[tactic(auto, unfolding(crate::specs::SlotVerdicts::verdict_within))]
+pub fn verdict_kind(header: &Header, limits: Limits, number: u8) -> Option<VerdictKind>
+    ensures { result ≡ option_map verdict_kind_of (verdict_within header.now limits number) }
 {
     match header {
-        Header::V1(header) => luks1_header::validation::verdict_kind(header, limit, number),
+        Header::V1(header) => {
+            luks1_header::validation::verdict_kind(header, limits.max_iterations, number)
+        }
         Header::V2(header, metadata) => {
-            luks2_metadata::slot::verdict_kind(metadata, bounds(header), limit, number)
+            luks2_metadata::slot::verdict_kind(metadata, bounds(header), limits, number)
         }
     }
 }
 
 /// What is needed to open the key slot of this number, or `None` if the header has no such slot. A
 /// LUKS1 slot is returned if its numbers are in range and there is a usable digest, whatever its
-/// state is. A LUKS2 slot is returned if nothing but a limit on iterations can be a reason to skip
-/// it.
+/// state and the limits are. A LUKS2 slot is returned if there is no reason to skip it.
 ///
 /// # Errors
 ///
 /// `AllocError` if memory runs out.
-#[tactic(auto, unfolding(crate::specs::SlotVerdicts::slot_at))]
-pub fn slot(alloc: Global, header: &Header, number: u8) -> Result<Option<Slot>, AllocError>
-    ensures { IfOk result (λ slot. slot ≡ slot_at header.now number) }
+#[tactic(auto, unfolding(crate::specs::SlotVerdicts::slot_within))]
+pub fn slot(
+    alloc: Global,
+    header: &Header,
+    limits: Limits,
+    number: u8,
+) -> Result<Option<Slot>, AllocError>
+    ensures { IfOk result (λ slot. slot ≡ slot_within header.now limits number) }
 {
     match header {
         Header::V1(header) => luks1_header::validation::slot(alloc, header, number),
         Header::V2(header, metadata) => {
-            luks2_metadata::slot::slot(alloc, metadata, bounds(header), number)
+            luks2_metadata::slot::slot(alloc, metadata, bounds(header), limits, number)
         }
     }
 }
 
-/// The verdict on the key slot of this number, if the header has one. A slot with more iterations
-/// than the limit is skipped.
+/// The verdict on the key slot of this number, if the header has one. A slot that costs more than
+/// the limits is skipped.
 ///
 /// # Errors
 ///
@@ -58,17 +65,17 @@ pub fn slot(alloc: Global, header: &Header, number: u8) -> Result<Option<Slot>, 
 pub fn verdict(
     alloc: Global,
     header: &Header,
-    limit: Option<u32>,
+    limits: Limits,
     number: u8,
 ) -> Result<Option<Verdict>, AllocError>
-    ensures value { IfOk result (λ verdict. verdict ≡ verdict_at header.now limit number) }
-    ensures err { OnErr result (can_be_tried (verdict_at header.now limit number) ≡ true) }
+    ensures value { IfOk result (λ verdict. verdict ≡ verdict_within header.now limits number) }
+    ensures err { OnErr result (can_be_tried (verdict_within header.now limits number) ≡ true) }
 {
-    match verdict_kind(header, limit, number) {
+    match verdict_kind(header, limits, number) {
         None => Ok(None),
         Some(VerdictKind::Disabled) => Ok(Some(Verdict::Disabled)),
         Some(VerdictKind::Skipped(reason)) => Ok(Some(Verdict::Skipped(reason))),
-        Some(VerdictKind::Usable(_)) => match slot(alloc, header, number)? {
+        Some(VerdictKind::Usable(_)) => match slot(alloc, header, limits, number)? {
             Some(slot) => Ok(Some(Verdict::Usable(slot))),
             None => unreachable!(),
         },
@@ -91,7 +98,7 @@ fn push_verdict(
 }
 
 /// The key slots of a header by ascending number, each with its verdict: at most 32 slots. A slot
-/// with more iterations than the limit is skipped.
+/// with more iterations than the limit is skipped, as is one that needs Argon2.
 ///
 /// # Errors
 ///
@@ -106,7 +113,7 @@ pub fn slots(
 {
     let mut verdicts = Vec::new(alloc);
     for number in 0..MAX_SLOTS {
-        let verdict = verdict(alloc, header, limit, number)?;
+        let verdict = verdict(alloc, header, Limits::without_argon2(limit), number)?;
         push_verdict(&mut verdicts, number, verdict)?;
     }
     Ok(verdicts)

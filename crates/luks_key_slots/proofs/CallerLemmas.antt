@@ -2,14 +2,13 @@
 use Rattle.std.proofs.Common.{◌≡◌, ◌∙◌, ℕ, ◌+◌, ◌*◌, ◌/◌, ◌==◌, ◌<◌, ◌≤◌, max, Bool, true, false, List, [], ◌∷◌, ◌++◌}
 use Rattle.std.proofs.Common.{length, take, drop, get_or, Option, Some, None, Ok, IsOk, IsSome, refl, sym, ap, subst}
 use Rattle.std.proofs.Common.{arith}
-use Rattle.std.specs.Prelude.{if◌then◌else◌, is_some, ok_or, option_and_then, option_map, slice_index_or, sum_by}
+use Rattle.std.specs.Prelude.{if◌then◌else◌, is_none, is_some, ok_or, option_and_then, option_map, slice_index_or, sum_by}
 use Rattle.std.specs.List.{AllByRecursion, All}
 use Rattle.std.specs.Option.{option_or}
 use Rattle.std.proofs.lemmas.Bool.{eq-eqb}
 use Rattle.std.proofs.lemmas.List.{drop_more}
 use Rattle.std.proofs.lemmas.List.Elements.{All-from_recursion, recursion_from_All}
 use Rattle.std.proofs.lemmas.Option.{same_Some}
-use Rattle.luks_kdf.specs.Pbkdf2.{derived_key}
 use Rattle.luks_kdf.specs.Stripes.{merged}
 use Rattle.luks_kdf.specs.declared.hash.Hash.{Hash}
 use Rattle.luks_header_area.specs.Area.{max_loaded_len}
@@ -18,9 +17,14 @@ use Rattle.luks_cipher.specs.Sector.{Cipher, is_mode_key_length, sector_decrypte
 use Rattle.luks_cipher.specs.declared.mode.Mode.{Mode}
 use Rattle.luks_cipher.proofs.ModeLemmas.{key_length_of_mode}
 use Rattle.luks_cipher.proofs.UnitsUndone.{joined_same}
+use Rattle.luks_verdict.specs.Derivation.{IsDerivable, is_allowed}
 use Rattle.luks_verdict.specs.Rule.{max_slots, key_material_len}
 use Rattle.luks_verdict.specs.Slot.{material_end, verdict_kind_of}
 use Rattle.luks_verdict.specs.Table.{ascending}
+use Rattle.luks_verdict.specs.declared.derivation.Argon2Limits.{Argon2Limits}
+use Rattle.luks_verdict.specs.declared.derivation.Derivation.{Derivation}
+use Rattle.luks_verdict.specs.declared.derivation.Derivation.TheVariants.{Pbkdf2, Argon2}
+use Rattle.luks_verdict.specs.declared.derivation.Limits.{Limits}
 use Rattle.luks_verdict.specs.declared.digest.KeyDigest.{KeyDigest}
 use Rattle.luks_verdict.specs.declared.refusal.SkipReason.{SkipReason}
 use Rattle.luks_verdict.specs.declared.segment.Segment.{Segment}
@@ -33,13 +37,14 @@ use Rattle.luks_verdict.proofs.RangeLemmas.{slot_range}
 use Rattle.luks_verdict.proofs.TableLemmas.{AllByRecursion-append, All-ascending}
 use Rattle.luks_header.specs.Header.{is_detached}
 use Rattle.luks_header.specs.HeaderSegment.{segment_of}
-use Rattle.luks_header.specs.SlotVerdicts.{can_be_tried, verdict_at}
+use Rattle.luks_header.specs.SlotVerdicts.{can_be_tried, verdict_within}
 use Rattle.luks_header.specs.declared.header.Header.{Header}
 use Rattle.luks_header.proofs.KnownLemmas.{IsKnown, before_payload, known_usable}
-use Rattle.luks_key_slots.specs.Candidate.{candidate_by, candidate_of, decrypted_material, material_sector}
+use Rattle.luks_key_slots.specs.Candidate.{candidate_by, candidate_of, decrypted_material, derived_by, material_sector}
 use Rattle.luks_key_slots.specs.Candidate.{matches_digest, recovered}
+use Rattle.luks_key_slots.specs.Deriving.{IsPbkdf2}
 use Rattle.luks_key_slots.specs.Opening.{first_opening, slot_key, opening_of, OrderModel}
-use Rattle.luks_key_slots.specs.Opening.{entry_with_priority, key_material_end, order_of, order_of_named}
+use Rattle.luks_key_slots.specs.Opening.{entry_with_priority, key_material_end, order_within, order_of_named}
 use Rattle.luks_key_slots.specs.Opening.{skipped_at, tried_with, unless_none, evaluations_of, tried_of, work_of}
 use Rattle.luks_key_slots.specs.Trial.{IsTriable}
 use Rattle.luks_key_slots.specs.declared.entry.Entry.{Entry}
@@ -48,23 +53,23 @@ use Rattle.luks_key_slots.specs.declared.opening.Opened.{Opened}
 use Rattle.luks_key_slots.proofs.MaterialLemmas.{length-recovered}
 
 -- an entry is one of this header: its key slot can be tried, and the entry has the verdict's own slot
-pub record IsOf (header : Header) (limit : Option ℕ) (entry : Entry) : Type 0 where
-  pub usable : verdict_at header limit entry.number ≡ Some (Usable entry.slot)
+pub record IsOf (header : Header) (limits : Limits) (entry : Entry) : Type 0 where
+  pub usable : verdict_within header limits entry.number ≡ Some (Usable entry.slot)
 
 -- a key slot that is tried with a priority is one of this header
-tried_with-some : (header : Header) (limit : Option ℕ) (priority number : ℕ) (entry : Entry)
-    → tried_with header limit priority number ≡ Some entry → IsOf header limit entry
-tried_with-some header limit priority number entry is = of_verdict (verdict_at header limit number) refl is
+tried_with-some : (header : Header) (limits : Limits) (priority number : ℕ) (entry : Entry)
+    → tried_with header limits priority number ≡ Some entry → IsOf header limits entry
+tried_with-some header limits priority number entry is = of_verdict (verdict_within header limits number) refl is
   where
-    of_test : (test : Bool) (made : Entry) → IsOf header limit made → (if test then Some made else None) ≡ Some entry
-        → IsOf header limit entry
+    of_test : (test : Bool) (made : Entry) → IsOf header limits made → (if test then Some made else None) ≡ Some entry
+        → IsOf header limits entry
     of_test true made of_header h =
         let same : made ≡ entry = same_Some _ _ h in
-        subst (IsOf header limit) same of_header
+        subst (IsOf header limits) same of_header
     of_test false made of_header h = absurd cc
 
-    of_verdict : (verdict : Option Verdict) → verdict_at header limit number ≡ verdict
-        → entry_with_priority priority number verdict ≡ Some entry → IsOf header limit entry
+    of_verdict : (verdict : Option Verdict) → verdict_within header limits number ≡ verdict
+        → entry_with_priority priority number verdict ≡ Some entry → IsOf header limits entry
     of_verdict (Some (Usable slot)) usable h =
         let made : Entry = record { number = number; slot = slot } in
         of_test (slot.parts.priority == priority) made (record { usable = usable }) h
@@ -79,25 +84,25 @@ order-unless_none (entry ∷ entries) skipped order is =
     ≡ order = cc in ap (λ (t : OrderModel). t.entries) same
 
 -- all entries of an order are ones of the header
-pub All-order : (header : Header) (named limit : Option ℕ) (order : OrderModel) → order_of header named limit ≡ Ok order
-    → AllByRecursion (IsOf header limit) order.entries
-unfolding order_of
-All-order header None limit order is =
-    subst (AllByRecursion (IsOf header limit))
-    (order-unless_none _ (ascending (skipped_at header limit) max_slots) order is)
-    (AllByRecursion-append (IsOf header limit) _ _
-    (All-ascending (IsOf header limit) (tried_with header limit 2) max_slots (tried_with-some header limit 2))
-    (All-ascending (IsOf header limit) (tried_with header limit 1) max_slots (tried_with-some header limit 1)))
-All-order header (Some number) limit order is = of_verdict (verdict_at header limit number) refl is
+pub All-order : (header : Header) (named : Option ℕ) (limits : Limits) (order : OrderModel) → order_within header named limits ≡ Ok order
+    → AllByRecursion (IsOf header limits) order.entries
+unfolding order_within
+All-order header None limits order is =
+    subst (AllByRecursion (IsOf header limits))
+    (order-unless_none _ (ascending (skipped_at header limits) max_slots) order is)
+    (AllByRecursion-append (IsOf header limits) _ _
+    (All-ascending (IsOf header limits) (tried_with header limits 2) max_slots (tried_with-some header limits 2))
+    (All-ascending (IsOf header limits) (tried_with header limits 1) max_slots (tried_with-some header limits 1)))
+All-order header (Some number) limits order is = of_verdict (verdict_within header limits number) refl is
   where
-    of_alone : (entry : Entry) → IsOf header limit entry → AllByRecursion (IsOf header limit) (entry ∷ [])
+    of_alone : (entry : Entry) → IsOf header limits entry → AllByRecursion (IsOf header limits) (entry ∷ [])
     of_alone entry of_header = (of_header, tt)
 
-    of_verdict : (verdict : Option Verdict) → verdict_at header limit number ≡ verdict
-        → order_of_named number verdict ≡ Ok order → AllByRecursion (IsOf header limit) order.entries
+    of_verdict : (verdict : Option Verdict) → verdict_within header limits number ≡ verdict
+        → order_of_named number verdict ≡ Ok order → AllByRecursion (IsOf header limits) order.entries
     of_verdict (Some (Usable slot)) usable h =
         let tried : Entry = record { number = number; slot = slot } in
-        subst (AllByRecursion (IsOf header limit)) (order-unless_none (tried ∷ []) [] order h)
+        subst (AllByRecursion (IsOf header limits)) (order-unless_none (tried ∷ []) [] order h)
         (of_alone tried (record { usable = usable }))
     of_verdict _ usable h = absurd cc
 
@@ -111,11 +116,11 @@ some_tried [] (entry ∷ entries) skipped some = refl
 some_tried (entry ∷ entries) second skipped some = refl
 
 -- a key slot whose verdict is that it can be tried with this priority is tried with it
-pub usable_there : (header : Header) (limit : Option ℕ) (priority number : ℕ)
-    → option_map verdict_kind_of (verdict_at header limit number) ≡ Some (KindUsable priority)
-    → IsSome (tried_with header limit priority number)
-usable_there header limit priority number is =
-    let usable = usable_from_kind (verdict_at header limit number) priority is in
+pub usable_there : (header : Header) (limits : Limits) (priority number : ℕ)
+    → option_map verdict_kind_of (verdict_within header limits number) ≡ Some (KindUsable priority)
+    → IsSome (tried_with header limits priority number)
+usable_there header limits priority number is =
+    let usable = usable_from_kind (verdict_within header limits number) priority is in
     rw (usable.1, eq-eqb usable.0.parts.priority priority usable.2) refl
 
 -- an entry that is there if a test holds is this entry
@@ -125,10 +130,10 @@ entry_if true entry some = refl
 entry_if false entry some = absurd cc
 
 -- a key slot that is tried with a priority is the verdict's own, with its number
-pub tried_usable : (header : Header) (limit : Option ℕ) (priority number : ℕ) (slot : Slot)
-    → verdict_at header limit number ≡ Some (Usable slot) → IsSome (tried_with header limit priority number)
-    → tried_with header limit priority number ≡ Some record { number = number; slot = slot }
-tried_usable header limit priority number slot is some =
+pub tried_usable : (header : Header) (limits : Limits) (priority number : ℕ) (slot : Slot)
+    → verdict_within header limits number ≡ Some (Usable slot) → IsSome (tried_with header limits priority number)
+    → tried_with header limits priority number ≡ Some record { number = number; slot = slot }
+tried_usable header limits priority number slot is some =
     ap (entry_with_priority priority number) is
     ∙ entry_if (slot.parts.priority == priority) (record { number = number; slot = slot })
     (sym (ap (λ (verdict : Option Verdict). is_some (entry_with_priority priority number verdict)) is) ∙ some)
@@ -176,53 +181,71 @@ key_material_end-drop entries i entry there is = ap key_material_end (from_entry
 
 -- ---- what holds for each key slot of an order
 
-module _ (header : Header) (named limit : Option ℕ) (order : OrderModel)
-    (is_order : order_of header named limit ≡ Ok order) where
-  pub each_of_header : All (IsOf header limit) order.entries
+-- without Argon2, a key that may be derived is derived by PBKDF2
+is_pbkdf2 : (limits : Limits) (derivation : Derivation) → is_none limits.argon2 ≡ true
+    → is_allowed limits derivation ≡ true → IsDerivable derivation → IsPbkdf2 derivation
+is_pbkdf2 limits (Pbkdf2 (Some hash) iterations) none is range = (range.some, omega (arith, range.few))
+is_pbkdf2 limits (Pbkdf2 None iterations) none is range = absurd cc
+is_pbkdf2 limits (Argon2 parameters) none is range = absurd (of_limits limits.argon2 none is)
+  where
+    of_limits : (argon2 : Option Argon2Limits) → is_none argon2 ≡ true → is_some argon2 ≡ true → ⊥
+    of_limits None none some = absurd cc
+    of_limits (Some limits) none some = absurd cc
+
+module _ (header : Header) (named : Option ℕ) (limits : Limits) (order : OrderModel)
+    (is_order : order_within header named limits ≡ Ok order) where
+  pub each_of_header : All (IsOf header limits) order.entries
   each_of_header =
-      All-from_recursion (IsOf header limit) order.entries (All-order header named limit order is_order)
+      All-from_recursion (IsOf header limits) order.entries (All-order header named limits order is_order)
 
   module _ (segment : Segment) (is_segment : segment_of header ≡ Ok segment) where
-    each_known : All (λ (entry : Entry). IsKnown segment entry.slot) order.entries
+    pub each_known : All (λ (entry : Entry). IsKnown segment limits entry.slot) order.entries
     each_known = λ k d below.
         let entry = slice_index_or order.entries k d in
         let is = each_of_header k d below in
-        known_usable header segment limit entry.number entry.slot is_segment is.usable
+        known_usable header segment limits entry.number entry.slot is_segment is.usable
 
     -- the key slots to be tried are triable if their key material is loaded
     pub All-IsTriable : (loaded : ℕ) → key_material_end order.entries ≤ loaded
         → All (λ (entry : Entry). IsTriable loaded entry.slot) order.entries
     All-IsTriable loaded there = λ k d below.
         let entry = slice_index_or order.entries k d in
-        let known : IsKnown segment entry.slot = each_known k d below in
+        let known : IsKnown segment limits entry.slot = each_known k d below in
         let ends = All-from_recursion (λ (entry : Entry). material_end entry.slot.parts ≤ loaded) order.entries
         (All-key_material_end loaded order.entries there) k d below in
         record {
-          kdf = known.kdf;
           af = known.af;
           volume_key = key_length_of_mode segment.mode entry.slot.parts.key_bytes known.volume_key;
           area = known.area;
           there = ends;
         }
 
+    -- without Argon2, the keys of all key slots to be tried are derived by PBKDF2
+    pub All-IsPbkdf2 : is_none limits.argon2 ≡ true
+        → All (λ (entry : Entry). IsPbkdf2 entry.slot.parts.derivation) order.entries
+    All-IsPbkdf2 none = λ k d below.
+        let entry = slice_index_or order.entries k d in
+        let known : IsKnown segment limits entry.slot = each_known k d below in
+        is_pbkdf2 limits entry.slot.parts.derivation none known.kdf (slot_range entry.slot).derivation
+
     -- the volume keys of the key slots to be tried have lengths that the segment's mode allows
     pub All-volume_key : All (λ (entry : Entry). is_mode_key_length segment.mode entry.slot.parts.key_bytes ≡ true)
         order.entries
     All-volume_key = λ k d below.
-        let known : IsKnown segment (slice_index_or order.entries k d).slot = each_known k d below in known.volume_key
+        let known : IsKnown segment limits (slice_index_or order.entries k d).slot = each_known k d below in known.volume_key
 
 -- ---- for callers
 
 -- with an attached header, the key material of all key slots to be tried ends at or before the payload's start
-pub key_areas_before_payload : (header : Header) (segment : Segment) (named limit : Option ℕ) (order : OrderModel)
+pub key_areas_before_payload : (header : Header) (segment : Segment) (named : Option ℕ) (limits : Limits) (order : OrderModel)
     → is_detached header ≡ false → segment_of header ≡ Ok segment
-    → order_of header named limit ≡ Ok order → key_material_end order.entries ≤ segment.offset
-key_areas_before_payload header segment named limit order attached is_segment is_order =
+    → order_within header named limits ≡ Ok order → key_material_end order.entries ≤ segment.offset
+key_areas_before_payload header segment named limits order attached is_segment is_order =
     key_material_end-le segment.offset order.entries
     (recursion_from_All (λ (entry : Entry). material_end entry.slot.parts ≤ segment.offset) order.entries (λ k d below.
     let entry = slice_index_or order.entries k d in
-    let is = each_of_header header named limit order is_order k d below in
-    before_payload header segment limit entry.number entry.slot attached is_segment is.usable))
+    let is = each_of_header header named limits order is_order k d below in
+    before_payload header segment limits entry.number entry.slot attached is_segment is.usable))
 
 -- key material that ends at or before offset n gives the same key from the first n bytes alone
 recovered_prefix : (af : Hash) (cipher : Cipher) (image : List ℕ) (offset key_bytes stripes n : ℕ)
@@ -250,16 +273,15 @@ key_prefix : (entry : Entry) (n : ℕ) (image pass : List ℕ) → material_end 
 unfolding slot_key candidate_of
 key_prefix entry n image pass before =
     let parts = entry.slot.parts in
-    ap (if_matches_digest entry.slot.digest) (of_read parts.kdf_hash parts.af_hash parts.area_mode)
+    ap (if_matches_digest entry.slot.digest)
+    (of_read (derived_by parts.derivation pass parts.salt parts.area_key_bytes) parts.af_hash parts.area_mode)
   where
-    of_read : (kdf af : Option Hash) (mode : Option Mode)
-        → candidate_by kdf af mode entry.slot.parts (take n image) pass
-        ≡ candidate_by kdf af mode entry.slot.parts image pass
-    of_read (Some kdf) (Some af) (Some mode) =
+    of_read : (area_key : Option (List ℕ)) (af : Option Hash) (mode : Option Mode)
+        → candidate_by area_key af mode entry.slot.parts (take n image)
+        ≡ candidate_by area_key af mode entry.slot.parts image
+    of_read (Some area_key) (Some af) (Some mode) =
         let parts = entry.slot.parts in
-        ap Some (recovered_prefix af
-        (mode, derived_key kdf pass parts.salt parts.iterations parts.area_key_bytes) image
-        parts.area_offset parts.key_bytes parts.stripes n before)
+        ap Some (recovered_prefix af (mode, area_key) image parts.area_offset parts.key_bytes parts.stripes n before)
     of_read _ _ _ = refl
 
 -- the bytes of the image after the key material do not change what a passphrase opens
@@ -299,13 +321,13 @@ candidate_length : (slot : Slot) (image pass key : List ℕ) → IsTriable (leng
     → candidate_of slot image pass ≡ Some key → length key ≡ slot.parts.key_bytes
 unfolding candidate_of
 candidate_length slot image pass key triable is =
-    of_names slot.parts.kdf_hash slot.parts.af_hash slot.parts.area_mode is
+    let parts = slot.parts in
+    of_names (derived_by parts.derivation pass parts.salt parts.area_key_bytes) parts.af_hash parts.area_mode is
   where
-    of_names : (kdf af : Option Hash) (mode : Option Mode)
-        → candidate_by kdf af mode slot.parts image pass ≡ Some key → length key ≡ slot.parts.key_bytes
-    of_names (Some kdf) (Some af) (Some mode) h =
+    of_names : (area_key : Option (List ℕ)) (af : Option Hash) (mode : Option Mode)
+        → candidate_by area_key af mode slot.parts image ≡ Some key → length key ≡ slot.parts.key_bytes
+    of_names (Some area_key) (Some af) (Some mode) h =
         let parts = slot.parts in
-        let area_key = derived_key kdf pass parts.salt parts.iterations parts.area_key_bytes in
         let same : recovered af (mode, area_key) image parts.area_offset parts.key_bytes parts.stripes ≡ key =
         same_Some _ _ h in
         ap length (sym same)

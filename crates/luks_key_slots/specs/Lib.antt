@@ -1,4 +1,5 @@
 pub mod Candidate
+pub mod Deriving
 pub mod Fault
 pub mod Opening
 pub mod Skipped

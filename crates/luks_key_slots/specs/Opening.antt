@@ -1,24 +1,24 @@
 -- The key slots to be tried, which of them opens a volume, and how many evaluations of HMAC that costs.
-use Rattle.std.specs.Prelude.{ℕ, ◌+◌, ◌*◌, sum_by, if◌then◌else◌, List, [], ◌∷◌, Option, Some, None, Result, Ok, Err}
+use Rattle.std.specs.Prelude.{ℕ, ◌+◌, ◌<◌, get_or, take, sum_by, if◌then◌else◌, List, [], ◌∷◌, Option, Some, None, Result, Ok, Err}
 use Rattle.std.specs.Prelude.{length, is_some, ok_or, option_and_then, option_map, ◌≡◌, ◌==◌, ◌⊎◌, max, MatchResult}
 use Rattle.std.specs.Prelude.{◌++◌}
-use Rattle.std.specs.Int.{div_ceil}
 use Rattle.std.specs.Option.{option_or}
-use Rattle.luks_kdf.specs.Hash.{digest_len}
-use Rattle.luks_kdf.specs.declared.hash.Hash.{Hash}
 use Rattle.luks_verdict.specs.declared.refusal.SkipReason.{SkipReason}
 use Rattle.luks_key_slots.specs.Candidate.{candidate_of, matches_digest}
+use Rattle.luks_key_slots.specs.Deriving.{blocks_by, evaluations, evaluations_by}
 use Rattle.luks_key_slots.specs.declared.entry.Entry.{Entry}
 use Rattle.luks_key_slots.specs.declared.fault.OpenFault.{OpenFault}
 use Rattle.luks_key_slots.specs.declared.fault.OpenFault.TheVariants.{NoKey, NoSuchSlot, Disabled, NamedSkipped}
 use Rattle.luks_key_slots.specs.declared.fault.OpenFault.TheVariants.{NothingTried, Memory}
 use Rattle.luks_key_slots.specs.declared.opening.Opened.{Opened}
+use Rattle.luks_verdict.specs.Derivation.{without_argon2}
 use Rattle.luks_verdict.specs.Rule.{max_slots}
 use Rattle.luks_verdict.specs.Slot.{material_end}
 use Rattle.luks_verdict.specs.Table.{ascending}
+use Rattle.luks_verdict.specs.declared.derivation.Limits.{Limits}
 use Rattle.luks_verdict.specs.declared.slot.Verdict.{Verdict}
 use Rattle.luks_verdict.specs.declared.slot.Verdict.TheVariants.{Usable, Disabled as VerdictDisabled, Skipped}
-use Rattle.luks_header.specs.SlotVerdicts.{verdict_at}
+use Rattle.luks_header.specs.SlotVerdicts.{verdict_within}
 use Rattle.luks_header.specs.declared.header.Header.{Header}
 
 -- ---- the order of the key slots
@@ -37,8 +37,8 @@ entry_with_priority priority number (Some (Usable slot)) =
 entry_with_priority priority number _ = None
 
 -- the key slot of this number, if it can be tried and has this priority
-abbrev pub tried_with : Header → Option ℕ → ℕ → ℕ → Option Entry
-tried_with header limit priority number = entry_with_priority priority number (verdict_at header limit number)
+abbrev pub tried_with : Header → Limits → ℕ → ℕ → Option Entry
+tried_with header limits priority number = entry_with_priority priority number (verdict_within header limits number)
 
 -- the number of a key slot and the reason why it is skipped, if it is
 abbrev pub skipped_with_reason : ℕ → Option Verdict → Option (ℕ × SkipReason)
@@ -46,8 +46,8 @@ skipped_with_reason number (Some (Skipped reason)) = Some (number, reason)
 skipped_with_reason number _ = None
 
 -- the number of this key slot and the reason why it is skipped, if it is
-abbrev pub skipped_at : Header → Option ℕ → ℕ → Option (ℕ × SkipReason)
-skipped_at header limit number = skipped_with_reason number (verdict_at header limit number)
+abbrev pub skipped_at : Header → Limits → ℕ → Option (ℕ × SkipReason)
+skipped_at header limits number = skipped_with_reason number (verdict_within header limits number)
 
 -- the order that tries these key slots, or the fault if there are none
 abbrev pub unless_none : List Entry → List (ℕ × SkipReason) → Result OrderModel OpenFault
@@ -62,13 +62,17 @@ order_of_named number (Some (Usable slot)) =
 order_of_named number (Some VerdictDisabled) = Err (Disabled number)
 order_of_named number (Some (Skipped reason)) = Err (NamedSkipped number reason)
 
--- the key slots of a header to be tried, by the named key slot and the limit on iterations, or why there are none. If
--- no key slot is named: those of priority 2, then those of priority 1, each by ascending number
-unfoldable pub order_of : Header → Option ℕ → Option ℕ → Result OrderModel OpenFault
-order_of header None limit =
-    unless_none (ascending (tried_with header limit 2) max_slots ++ ascending (tried_with header limit 1) max_slots)
-    (ascending (skipped_at header limit) max_slots)
-order_of header (Some named) limit = order_of_named named (verdict_at header limit named)
+-- the key slots of a header to be tried, by the named key slot and the limits, or why there are none. If no key slot is
+-- named: those of priority 2, then those of priority 1, each by ascending number
+unfoldable pub order_within : Header → Option ℕ → Limits → Result OrderModel OpenFault
+order_within header None limits =
+    unless_none (ascending (tried_with header limits 2) max_slots ++ ascending (tried_with header limits 1) max_slots)
+    (ascending (skipped_at header limits) max_slots)
+order_within header (Some named) limits = order_of_named named (verdict_within header limits named)
+
+-- the same without Argon2, by the limit on iterations
+abbrev pub order_of : Header → Option ℕ → Option ℕ → Result OrderModel OpenFault
+order_of header named limit = order_within header named (without_argon2 limit)
 
 -- an answer is the specified one, or memory ran out
 abbrev pub IsOrMemory : {T : Type 0} → Result T OpenFault → Result T OpenFault → Type 0
@@ -98,16 +102,15 @@ first_opening (entry ∷ entries) image pass =
 unfoldable pub opening_of : OrderModel → List ℕ → List ℕ → Result Opened OpenFault
 opening_of order image pass = ok_or (first_opening order.entries image pass) (NoKey order.skipped)
 
--- the number of HMAC evaluations with which PBKDF2 derives `bytes` bytes
-abbrev pub evaluations : Option Hash → ℕ → ℕ → ℕ
-evaluations (Some hash) iterations bytes = iterations * div_ceil bytes (digest_len hash)
-evaluations None iterations bytes = 0
-
 -- the evaluations that trying a key slot costs: for the key of its key material, and for the digest of the candidate
 unfoldable pub evaluations_of : Entry → ℕ
 evaluations_of entry =
-    evaluations entry.slot.parts.kdf_hash entry.slot.parts.iterations entry.slot.parts.area_key_bytes
+    evaluations_by entry.slot.parts.derivation entry.slot.parts.area_key_bytes
     + evaluations entry.slot.digest.parts.hash entry.slot.digest.parts.iterations (length entry.slot.digest.parts.value)
+
+-- the blocks that Argon2 fills for the key of a key slot's key material
+abbrev pub blocks_of : Entry → ℕ
+blocks_of entry = blocks_by entry.slot.parts.derivation
 
 -- the key slots that are tried: up to the first that opens, or all
 unfoldable pub tried_of : List Entry → List ℕ → List ℕ → List Entry
@@ -118,3 +121,13 @@ tried_of (entry ∷ entries) image pass = entry
 -- the evaluations of HMAC that opening costs: those of all key slots that are tried
 unfoldable pub work_of : OrderModel → List ℕ → List ℕ → ℕ
 work_of order image pass = sum_by evaluations_of (tried_of order.entries image pass)
+
+-- the blocks that Argon2 fills for opening: those of all key slots that are tried
+abbrev pub blocks_filled : OrderModel → List ℕ → List ℕ → ℕ
+blocks_filled order image pass = sum_by blocks_of (tried_of order.entries image pass)
+
+-- the key slot of this number follows the first n, none of which opens
+pub record StopsAfter (entries : List Entry) (image pass : List ℕ) (n number : ℕ) : Type 0 where
+  pub there : n < length entries
+  pub slot : (entry : Entry) → (get_or entries n entry).number ≡ number
+  pub none : first_opening (take n entries) image pass ≡ None

@@ -8,7 +8,7 @@ use Rattle.luks2_metadata.specs.declared.digest.Digest.{Digest}
 use Rattle.luks_header.specs.HeaderDigests.{digest_for, digests_of}
 use Rattle.luks_header.specs.declared.header.Header.{Header}
 use Rattle.luks_key_slots.specs.Candidate.{matches_digest}
-use Rattle.luks_key_slots.specs.Opening.{evaluations}
+use Rattle.luks_key_slots.specs.Deriving.{evaluations}
 use Rattle.luks_key_slots.specs.declared.volume_key.KeyCheck.{KeyCheck}
 use Rattle.luks_key_slots.specs.declared.volume_key.KeyCheck.TheVariants.{Matches, Differs, NoDigest}
 

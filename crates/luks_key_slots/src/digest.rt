@@ -3,7 +3,7 @@
 ghost use Rattle.std.specs.Prelude.{◌≡◌, ◌+◌, length};
 ghost use Rattle.luks_kdf.specs.Pbkdf2.{capped};
 ghost use Rattle.luks_key_slots.specs.Candidate.{matches_digest};
-ghost use Rattle.luks_key_slots.specs.Opening.{evaluations};
+ghost use Rattle.luks_key_slots.specs.Deriving.{evaluations};
 
 use crate::key::Key;
 use luks_header::digest::KeyDigest;

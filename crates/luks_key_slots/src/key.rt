@@ -32,6 +32,15 @@ impl Model for Key {
 }
 
 impl Key {
+    /// The first `len` of these bytes.
+    pub fn new(bytes: [u8; MAX_KEY_LEN], len: usize) -> Key
+        requires { len ≤ 64 }
+        ensures value { result ≡ take len bytes }
+        ensures len { length result ≡ len }
+    {
+        Key { bytes, len }
+    }
+
     /// The key of `len` bytes that PBKDF2 derives from a passphrase or from a candidate key.
     pub(crate) fn derived(
         hash: Hash,
@@ -45,6 +54,7 @@ impl Key {
         requires some { 1 ≤ len }
         requires capacity { len ≤ 64 }
         ensures key { result ≡ derived_key hash secret.now salt.now iterations len }
+        ensures len { length result ≡ len }
         ensures work { work.new ≡ capped (work.old + iterations * div_ceil len (digest_len hash)) }
     {
         let mut bytes = [0; MAX_KEY_LEN];

@@ -5,6 +5,7 @@
 //! [`open`](opening::open) tries them.
 #![tactic(auto)]
 
+pub mod derive;
 mod digest;
 mod entry;
 pub mod fault;

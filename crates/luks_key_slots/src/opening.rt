@@ -1,18 +1,21 @@
 //! Opening a volume by a passphrase.
 
-ghost use Rattle.std.specs.Prelude.{◌≡◌, ◌+◌, ◌≤◌, ℕ, Option, Ok, All, IfOk, IsSome, true};
-ghost use Rattle.std.specs.Prelude.{length, sum_by};
+ghost use Rattle.std.specs.Prelude.{◌≡◌, ◌+◌, ◌≤◌, ℕ, List, Option, Some, Ok, All, IfErr, IfOk, IsSome};
+ghost use Rattle.std.specs.Prelude.{OnErr, OnOk, true, length, sum_by, take};
 ghost use Rattle.luks_cipher.specs.Sector.{is_mode_key_length};
 ghost use Rattle.luks_kdf.specs.Pbkdf2.{capped};
 ghost use Rattle.luks_header.specs.HeaderSegment.{segment_of};
+ghost use Rattle.luks_verdict.specs.declared.derivation.Derivation.{Derivation};
+ghost use Rattle.luks_verdict.specs.declared.derivation.Limits.{Limits};
 ghost use Rattle.luks_verdict.specs.declared.segment.Segment.{Segment};
-ghost use Rattle.luks_key_slots.specs.Candidate.{candidate_of};
-ghost use Rattle.luks_key_slots.specs.Opening.{evaluations, evaluations_of};
-ghost use Rattle.luks_key_slots.specs.Opening.{first_opening, slot_key};
+ghost use Rattle.luks_key_slots.specs.Candidate.{candidate_by};
+ghost use Rattle.luks_key_slots.specs.Opening.{blocks_filled, blocks_of, evaluations_of};
+ghost use Rattle.luks_key_slots.specs.Opening.{StopsAfter, first_opening, slot_key};
 ghost use Rattle.luks_key_slots.specs.Opening.{opening_of, tried_of, work_of};
-ghost use Rattle.luks_key_slots.specs.Opening.{key_material_end, order_of};
+ghost use Rattle.luks_key_slots.specs.Opening.{key_material_end, order_of, order_within};
 ghost use Rattle.luks_key_slots.specs.Trial.{IsTriable};
 
+use crate::derive::{Derive, Pbkdf2Alone};
 use crate::digest::key_matches_digest;
 use crate::entry::Entry;
 use crate::fault::OpenFault;
@@ -33,26 +36,25 @@ pub struct Opened {
     pub key: Key,
 }
 
-// The key that the material of a key slot holds under a passphrase.
-#[tactic(auto, unfolding(crate::specs::Candidate::candidate_of))]
-fn candidate(slot: &Slot, image: &[u8], pass: &[u8], work: &mut Work) -> Option<Key>
-    requires { IsTriable (length image.now) slot.now }
-    ensures value { result ≡ candidate_of slot.now image.now pass.now }
+/// A key slot whose key was not derived, and why.
+#[derive(Drop)]
+pub struct Underived<F> {
+    /// The number of the key slot.
+    pub slot: u8,
+    /// Why its key was not derived.
+    pub fault: F,
+}
+
+// The key that the material of a key slot holds, encrypted under `area_key`.
+fn candidate(slot: &Slot, image: &[u8], area_key: &Key) -> Option<Key>
+    requires triable { IsTriable (length image.now) slot.now }
+    requires key { length area_key.now ≡ slot.now.parts.area_key_bytes }
+    ensures value { let parts = slot.now.parts in result
+        ≡ candidate_by (Some area_key.now) parts.af_hash parts.area_mode parts image.now }
     ensures some { IsSome result }
-    ensures work { let parts = slot.now.parts in work.new ≡ capped (work.old
-        + evaluations parts.kdf_hash parts.iterations parts.area_key_bytes) }
 {
-    let kdf = slot.parts.kdf_hash?;
     let af = slot.parts.af_hash?;
     let mode = slot.parts.area_mode?;
-    let area_key = Key::derived(
-        kdf,
-        pass,
-        slot.parts.salt.as_slice(),
-        slot.parts.iterations,
-        slot.parts.area_key_bytes as usize,
-        work,
-    );
     Some(Key::recovered(
         af,
         &SectorCipher::expanded(mode, area_key.as_slice()),
@@ -64,49 +66,143 @@ fn candidate(slot: &Slot, image: &[u8], pass: &[u8], work: &mut Work) -> Option<
 }
 
 // The volume key that a key slot gives under a passphrase, if the slot opens.
-#[tactic(auto, unfolding(crate::specs::Opening::slot_key, crate::specs::Opening::evaluations_of))]
-fn slot_key(entry: &Entry, image: &[u8], pass: &[u8], work: &mut Work) -> Option<Key>
-    requires { IsTriable (length image.now) entry.now.slot }
-    ensures value { result ≡ slot_key entry.now image.now pass.now }
-    ensures work { work.new ≡ capped (work.old + evaluations_of entry.now) }
+#[tactic(auto, unfolding(crate::specs::Opening::slot_key, crate::specs::Opening::evaluations_of, crate::specs::Candidate::candidate_of,))]
+fn slot_key<D: Derive>(
+    derive: &mut D,
+    entry: &Entry,
+    image: &[u8],
+    pass: &[u8],
+    work: &mut Work,
+) -> Result<Option<Key>, D::Fault>
+    requires triable { IsTriable (length image.now) entry.now.slot }
+    requires derives { let parts = entry.now.slot.parts in
+        D.derives derive.old parts.derivation pass.now parts.salt }
+    ensures value { IfOk result (λ key. key ≡ slot_key entry.now image.now pass.now) }
+    ensures work { OnOk result (work.new ≡ capped (work.old + evaluations_of entry.now)) }
+    ensures filled { OnOk result (capped (D.blocks derive.new)
+        ≡ capped (D.blocks derive.old + blocks_of entry.now)) }
+    ensures nothing { OnErr result ((work.new ≡ work.old)
+        × (capped (D.blocks derive.new) ≡ capped (D.blocks derive.old))) }
+    ensures still { (other : Derivation) → (password salt : List ℕ)
+        → D.derives derive.old other password salt → D.derives derive.new other password salt }
 {
-    let key = candidate(&entry.slot, image, pass, work)?;
-    if key_matches_digest(&entry.slot.digest, key.as_slice(), work) {
-        Some(key)
+    let slot = &entry.slot;
+    let area_key = derive.derive(
+        slot.parts.derivation,
+        pass,
+        slot.parts.salt.as_slice(),
+        slot.parts.area_key_bytes as usize,
+        work,
+    )?;
+    let Some(key) = candidate(slot, image, &area_key) else {
+        return Ok(None);
+    };
+    if key_matches_digest(&slot.digest, key.as_slice(), work) {
+        Ok(Some(key))
     } else {
-        None
+        Ok(None)
     }
 }
 
 // The first of these key slots that opens.
-fn first_opening(entries: &[Entry], image: &[u8], pass: &[u8], work: &mut Work) -> Option<Opened>
-    requires { All (λ entry. IsTriable (length image.now) entry.slot) entries.now }
-    ensures value { result ≡ first_opening entries.now image.now pass.now }
-    ensures work { work.new ≡ capped (work.old
-        + sum_by evaluations_of (tried_of entries.now image.now pass.now)) }
+fn first_opening<D: Derive>(
+    derive: &mut D,
+    entries: &[Entry],
+    image: &[u8],
+    pass: &[u8],
+    work: &mut Work,
+) -> Result<Option<Opened>, Underived<D::Fault>>
+    requires triable { All (λ entry. IsTriable (length image.now) entry.slot) entries.now }
+    requires derives { All (λ entry. D.derives derive.old entry.slot.parts.derivation pass.now
+        entry.slot.parts.salt) entries.now }
+    ensures value { IfOk result (λ opened. opened
+        ≡ first_opening entries.now image.now pass.now) }
+    ensures work { OnOk result (work.new ≡ capped (work.old
+        + sum_by evaluations_of (tried_of entries.now image.now pass.now))) }
+    ensures filled { OnOk result (capped (D.blocks derive.new) ≡ capped (D.blocks derive.old
+        + sum_by blocks_of (tried_of entries.now image.now pass.now))) }
+    ensures stopped { IfErr result (λ stop. (tried : ℕ)
+        × StopsAfter entries.now image.now pass.now tried stop.slot
+        × (work.new ≡ capped (work.old + sum_by evaluations_of (take tried entries.now)))
+        × (capped (D.blocks derive.new)
+        ≡ capped (D.blocks derive.old + sum_by blocks_of (take tried entries.now)))) }
 {
     // The clause of `count` says that the count is within its range, so without key slots it is
     // already capped.
     let _before = work.count();
     'entries: for entry in entries {
-        if let Some(key) = slot_key(entry, image, pass, work) {
-            return Some(Opened {
-                slot: entry.number,
-                key,
-            });
+        match slot_key(derive, entry, image, pass, work) {
+            Ok(Some(key)) => {
+                return Ok(Some(Opened {
+                    slot: entry.number,
+                    key,
+                }));
+            }
+            Ok(None) => {}
+            Err(fault) => {
+                return Err(Underived {
+                    slot: entry.number,
+                    fault,
+                });
+            }
         }
     }
-    None
+    Ok(None)
 }
 
 /// Tries the key slots of an order under a passphrase, and returns the first that opens, with its
 /// volume key (LUKS1 On-Disk Format Specification 1.2.3, "Master key recovery").
 ///
 /// A key slot opens if PBKDF2 of the key that its material holds equals the whole value of its
-/// digest. If none opens, the fault is [`OpenFault::NoKey`]; there is no other fault. This
-/// allocates nothing. The count of work is raised by the evaluations of HMAC for the key slots that
-/// are tried: up to the first that opens, or all. `header` is only for the contract.
+/// digest. If none opens, the inner result is [`OpenFault::NoKey`]; there is no other fault. The
+/// count of work is raised by the evaluations of HMAC for the key slots that are tried: up to the
+/// first that opens, or all. So is the count of `derive` by the blocks that Argon2 fills. Nothing
+/// but `derive` allocates. `header` is only for the contract.
+///
+/// # Errors
+///
+/// The key of a slot was not derived. The slots before it were tried, and none opens; those after
+/// it were not.
 #[tactic(auto, unfolding(crate::specs::Opening::opening_of, crate::specs::Opening::work_of))]
+pub fn open_by<D: Derive>(
+    derive: &mut D,
+    header: &Header,
+    area: &HeaderArea,
+    order: &Order,
+    pass: &[u8],
+    work: &mut Work,
+) -> Result<Result<Opened, OpenFault>, Underived<D::Fault>>
+    // The order is one of this header, whose segment is valid, and the area contains the key
+    // material. Each key can be derived.
+    requires order { (named : Option ℕ) × (limits : Limits)
+        × (order_within header.now named limits ≡ Ok order.now) }
+    requires segment { (segment : Segment) × (segment_of header.now ≡ Ok segment) }
+    requires loaded { key_material_end order.now.entries ≤ length area.now.bytes }
+    requires derives { All (λ entry. D.derives derive.old entry.slot.parts.derivation pass.now
+        entry.slot.parts.salt) order.now.entries }
+    ensures value { IfOk result (λ opening. opening
+        ≡ opening_of order.now area.now.bytes pass.now) }
+    ensures work { OnOk result
+        (work.new ≡ capped (work.old + work_of order.now area.now.bytes pass.now)) }
+    ensures filled { OnOk result (capped (D.blocks derive.new) ≡ capped (D.blocks derive.old
+        + blocks_filled order.now area.now.bytes pass.now)) }
+    ensures key_length { (segment : Segment) → segment_of header.now ≡ Ok segment
+        → IfOk result (λ opening. IfOk opening (λ opened.
+        is_mode_key_length segment.mode (length opened.key) ≡ true)) }
+    ensures stopped { IfErr result (λ stop. (tried : ℕ)
+        × StopsAfter order.now.entries area.now.bytes pass.now tried stop.slot
+        × (work.new ≡ capped (work.old + sum_by evaluations_of (take tried order.now.entries)))
+        × (capped (D.blocks derive.new) ≡ capped (D.blocks derive.old
+        + sum_by blocks_of (take tried order.now.entries)))) }
+{
+    match first_opening(derive, order.entries(), area.as_slice(), pass, work)? {
+        Some(opened) => Ok(Ok(opened)),
+        None => Ok(Err(OpenFault::NoKey(order.skipped()))),
+    }
+}
+
+/// The same for an order without Argon2, whose keys PBKDF2 derives. If none opens, the fault is
+/// [`OpenFault::NoKey`]; there is no other fault. This allocates nothing.
 pub fn open(
     header: &Header,
     area: &HeaderArea,
@@ -124,8 +220,8 @@ pub fn open(
     ensures key_length { (segment : Segment) → segment_of header.now ≡ Ok segment
         → IfOk result (λ opened. is_mode_key_length segment.mode (length opened.key) ≡ true) }
 {
-    match first_opening(order.entries(), area.as_slice(), pass, work) {
-        Some(opened) => Ok(opened),
-        None => Err(OpenFault::NoKey(order.skipped())),
+    match open_by(&mut Pbkdf2Alone, header, area, order, pass, work) {
+        Ok(opening) => opening,
+        Err(stop) => match stop.fault {},
     }
 }

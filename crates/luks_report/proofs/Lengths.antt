@@ -7,7 +7,7 @@ use Rattle.luks_verdict.specs.declared.refusal.SkipReason.TheVariants.{State}
 use Rattle.luks_verdict.specs.declared.refusal.SegmentFault.{SegmentFault}
 use Rattle.luks_verdict.specs.declared.refusal.SegmentFault.TheVariants.{Requirement}
 
-pub reason_len : (reason : SkipReason) → length (reason_text reason) ≤ 10
+pub reason_len : (reason : SkipReason) → length (reason_text reason) ≤ 19
 reason_len State = omega arith
 reason_len _ = omega arith
 

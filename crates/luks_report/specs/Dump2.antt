@@ -9,6 +9,10 @@ use Rattle.luks_verdict.specs.SegmentFault.{fault_text}
 use Rattle.luks_verdict.specs.SkipReason.{reason_text}
 use Rattle.luks_verdict.specs.declared.refusal.SegmentFault.{SegmentFault}
 use Rattle.luks_verdict.specs.declared.segment.Segment.{Segment}
+use Rattle.luks_argon2.specs.declared.variant.Variant.{Variant}
+use Rattle.luks_argon2.specs.declared.variant.Variant.TheVariants.{Argon2i, Argon2id}
+use Rattle.luks_verdict.specs.declared.derivation.Derivation.{Derivation}
+use Rattle.luks_verdict.specs.declared.derivation.Derivation.TheVariants.{Pbkdf2, Argon2}
 use Rattle.luks_verdict.specs.declared.slot.SlotParts.{SlotParts}
 use Rattle.luks_verdict.specs.declared.slot.Verdict.{Verdict}
 use Rattle.luks_verdict.specs.declared.slot.Verdict.TheVariants.{Usable, Disabled, Skipped}
@@ -54,13 +58,26 @@ abbrev pub hash_text : Option Hash → List ℕ
 hash_text None = []
 hash_text (Some hash) = hash_name hash
 
--- the text of a key slot that can be tried: its priority, the hash function and the iterations of its key, and the
--- offset and the size of its area in bytes
+-- the name of a variant of Argon2
+abbrev pub variant_text : Variant → List ℕ
+variant_text Argon2i = codes "argon2i"
+variant_text Argon2id = codes "argon2id"
+
+-- how the key of a slot is derived: by PBKDF2 with a hash function and iterations, or by Argon2. (No dump has a usable
+-- key slot with Argon2.)
+unfoldable pub kdf_text : Derivation → List ℕ
+kdf_text (Pbkdf2 hash iterations) =
+    codes "pbkdf2 hash=" ++ hash_text hash ++ codes " iterations=" ++ decimal iterations
+kdf_text (Argon2 parameters) =
+    variant_text parameters.variant ++ codes " time=" ++ decimal parameters.passes ++ codes " memory="
+    ++ decimal parameters.memory_kib ++ codes " cpus=" ++ decimal parameters.lanes
+
+-- the text of a key slot that can be tried: its priority, how its key is derived, and the offset and the size of its area
+-- in bytes
 unfoldable pub usable_text : SlotParts → List ℕ
 usable_text parts =
-    codes "USABLE priority=" ++ decimal parts.priority ++ codes " kdf=pbkdf2 hash=" ++ hash_text parts.kdf_hash
-    ++ codes " iterations=" ++ decimal parts.iterations ++ codes " offset=" ++ decimal parts.area_offset
-    ++ codes " size=" ++ decimal parts.area_size
+    codes "USABLE priority=" ++ decimal parts.priority ++ codes " kdf=" ++ kdf_text parts.derivation
+    ++ codes " offset=" ++ decimal parts.area_offset ++ codes " size=" ++ decimal parts.area_size
 
 -- the text of a key slot. (No LUKS2 key slot is disabled.)
 abbrev pub verdict_text : Verdict → List ℕ

@@ -9,7 +9,6 @@ use Rattle.std.proofs.lemmas.List.{length-take-le, take_all}
 use Rattle.std.proofs.lemmas.Bool.{le-ltb}
 use Rattle.std.specs.List.{AllByRecursion, Contains}
 use Rattle.std.proofs.lemmas.Bool.Decides.{nat_tests}
-use Rattle.std.proofs.lemmas.Option.{same_Some}
 use Rattle.std.proofs.lemmas.Slice.Eq.{bytes_eq-Decides}
 use Rattle.std.proofs.lemmas.List.Elements.{All-nil, recursion_from_All}
 use Rattle.luks_aes.specs.Bytes.{IsBytes}
@@ -33,11 +32,12 @@ use Rattle.luks_verdict.specs.declared.digest.KeyDigest.{KeyDigest}
 use Rattle.luks_verdict.specs.declared.slot.Slot.{Slot}
 use Rattle.luks_header.specs.HeaderSegment.{segment_of}
 use Rattle.luks_header.specs.declared.header.Header.{Header}
-use Rattle.luks_header.proofs.KnownLemmas.{known_usable, slot_of_usable, is_attached}
+use Rattle.luks_verdict.specs.Derivation.{without_argon2}
+use Rattle.luks_header.proofs.KnownLemmas.{is_attached, known_usable, same_slot}
 use Rattle.luks_key_slots.specs.Candidate.{decrypted_material, material_sector, recovered, candidate_of, matches_digest}
 use Rattle.luks_key_slots.specs.Opening.{first_opening, slot_key, opening_of}
 use Rattle.luks_key_slots.specs.declared.entry.Entry.{Entry}
-use Rattle.luks_key_slots.specs.Opening.{key_material_end, order_of}
+use Rattle.luks_key_slots.specs.Opening.{key_material_end, order_within}
 use Rattle.luks_key_slots.specs.declared.fault.OpenFault.TheVariants.{NoKey}
 use Rattle.luks_key_slots.specs.declared.opening.Opened.{Opened}
 use Rattle.luks_key_slots.proofs.CallerLemmas.{All-order, IsOf, key_areas_before_payload, opened_or}
@@ -148,8 +148,8 @@ module _ (passphrase key image : List ℕ) where
       let parts = slot.parts in
       let made = gives.is_material in
       let cipher : Cipher =
-      (gives.mode, derived_key gives.kdf passphrase parts.salt parts.iterations parts.area_key_bytes) in
-      let keys = derived_bytes gives.kdf passphrase parts.salt parts.iterations parts.area_key_bytes in
+      (gives.mode, derived_key gives.kdf passphrase parts.salt gives.iterations parts.area_key_bytes) in
+      let keys = derived_bytes gives.kdf passphrase parts.salt gives.iterations parts.area_key_bytes in
       let sector = material_sector cipher image parts.area_offset in
       let sectors = units_undone cipher (λ i. i) 512 parts.area_offset gives.material image gives.is_stored keys refl
       sector (λ i. let same : parts.area_offset + 512 * i ≡ parts.area_offset + i * 512 = omega arith in
@@ -170,17 +170,17 @@ module _ (passphrase key image : List ℕ) where
 
   -- a sealed key slot opens under its passphrase and gives the key
   key_again : (header : Header) (segment : Segment) (limit : Option ℕ) (entry : Entry)
-      → segment_of header ≡ Ok segment → IsOf header limit entry
+      → segment_of header ≡ Ok segment → IsOf header (without_argon2 limit) entry
       → SealsKey header image key entry.number passphrase → slot_key entry image passphrase ≡ Some key
   unfolding slot_key
   key_again header segment limit entry is_segment is seals =
-      let same_slot : entry.slot ≡ seals.slot =
-      same_Some _ _ (sym (slot_of_usable header limit entry.number entry.slot is.usable)
-      ∙ slot_of_usable header None entry.number seals.slot seals.usable) in
-      let known = known_usable header segment None entry.number seals.slot is_segment seals.usable in
+      let same : entry.slot ≡ seals.slot =
+      same_slot header (without_argon2 limit) (without_argon2 None) entry.number entry.slot seals.slot is.usable
+      seals.usable in
+      let known = known_usable header segment (without_argon2 None) entry.number seals.slot is_segment seals.usable in
       let some = rw seals.gives.key_bytes at (some_key segment.mode seals.slot.parts.key_bytes known.volume_key) in
       let candidate = candidate_again seals.slot some seals.gives in
-      rw (same_slot, candidate, matches_again seals.slot.digest seals.digest_of_key) refl
+      rw (same, candidate, matches_again seals.slot.digest seals.digest_of_key) refl
 
 -- ---- the first key slot that opens
 
@@ -231,9 +231,10 @@ module _ (slots : SlotChoice) (image passphrase plain : List ℕ)
   opens =
       let sealed = honest.sealed in
       let first = honest.first in
-      let tried = All-order sealed.header slots.named slots.max_iterations honest.order honest.is_order in
-      let is = in_the_middle (IsOf sealed.header slots.max_iterations) first.before first.entry first.after
-      (subst (AllByRecursion (IsOf sealed.header slots.max_iterations)) first.are tried) in
+      let limits = without_argon2 slots.max_iterations in
+      let tried = All-order sealed.header slots.named limits honest.order honest.is_order in
+      let is = in_the_middle (IsOf sealed.header limits) first.before first.entry first.after
+      (subst (AllByRecursion (IsOf sealed.header limits)) first.are tried) in
       let seals = sealed_with image honest.key plain passphrase honest.passphrases honest.number sealed
       honest.is_passphrase in
       let gives = key_again passphrase honest.key image sealed.header sealed.segment slots.max_iterations first.entry
@@ -252,7 +253,8 @@ module _ (slots : SlotChoice) (image passphrase plain : List ℕ)
   unfolding volume_outcome_by
   opened_is =
       let sealed = honest.sealed in
-      let before = key_areas_before_payload sealed.header sealed.segment slots.named slots.max_iterations honest.order
+      let before = key_areas_before_payload sealed.header sealed.segment slots.named
+      (without_argon2 slots.max_iterations) honest.order
       (is_attached image sealed.header sealed.is_header) sealed.is_segment honest.is_order in
       let within : key_material_end honest.order.entries ≤ length image =
       omega (arith, before, sealed.payload.is_stored.there) in
@@ -283,7 +285,7 @@ pub named_is_honest : (slots : SlotChoice) (image passphrase plain key : List �
     (number : ℕ) → Sealed image passphrases key plain → Contains passphrases (number, passphrase)
     → length passphrase ≤ max_key_file_len → slots.named ≡ Some number → slots.max_iterations ≡ None
     → OpensHonest slots image passphrase plain
-unfolding order_of
+unfolding order_within
 named_is_honest slots image passphrase plain key passphrases number sealed is short named unlimited =
     let seals = sealed_with image key plain passphrase passphrases number sealed is in
     let tried : Entry = record { number = number; slot = seals.slot } in

@@ -25,7 +25,8 @@ use Rattle.luks_seal.proofs.FieldLemmas.{at_inside}
 use Rattle.luks1_header.specs.Header1.{is_luks1}
 use Rattle.luks_header.specs.Header.{header_of}
 use Rattle.luks_header.specs.HeaderSegment.{segment_of}
-use Rattle.luks_header.specs.SlotVerdicts.{verdict_at}
+use Rattle.luks_verdict.specs.declared.derivation.Derivation.TheVariants.{Pbkdf2}
+use Rattle.luks_header.specs.SlotVerdicts.{verdict_within}
 use Rattle.luks_header.specs.declared.header.Header.TheVariants.{V1}
 use Rattle.luks_seal.specs.Pieces.{sector_padded, stripes_of}
 use Rattle.luks_seal.proofs.SlotLemmas.{found_by_number}
@@ -142,9 +143,10 @@ module _ (p : Seal1) (fits : AreParameters1 p) (typed : AreTyped1 p) where
         let random = random_stripes1 p fits typed slot used.fits in
         record {
           kdf = p.hash;
+          iterations = slot.iterations;
           af = p.hash;
           mode = p.mode;
-          is_kdf = hash1_is;
+          is_kdf = ap (λ hash. Pbkdf2 hash slot.iterations) hash1_is;
           is_af = hash1_is;
           is_mode = mode1_is;
           key_bytes = refl;
@@ -157,7 +159,7 @@ module _ (p : Seal1) (fits : AreParameters1 p) (typed : AreTyped1 p) where
         }
 
     seals_key1 : SealsKey (V1 (found_header p)) (image1_of p) p.key.now slot.number slot.passphrase.now
-    unfolding verdict_at verdict1_at slot_of
+    unfolding verdict_within verdict1_at slot_of
     seals_key1 = record {
       slot = slot_of (slot_parts1_of (found_header p) (found_slot p slot))
           (digest_of (digest_parts1_of (found_header p)) digest_usable) parts_ok;

@@ -42,7 +42,8 @@ use Rattle.luks_verdict.specs.declared.slot.SlotParts.{SlotParts}
 use Rattle.luks2_metadata.specs.Segment2.{segment2_of}
 use Rattle.luks2_metadata.specs.Slot2.{verdict2_at}
 use Rattle.luks_header.specs.HeaderSegment.{segment_of}
-use Rattle.luks_header.specs.SlotVerdicts.{verdict_at}
+use Rattle.luks_verdict.specs.Derivation.{without_argon2}
+use Rattle.luks_header.specs.SlotVerdicts.{verdict_within}
 use Rattle.luks_seal.specs.Sealed.{EndsWith, GivesKey, IsDigestOf, Sealed, SealsKey, SealsPlain}
 
 -- the key material of a slot
@@ -213,6 +214,7 @@ module _ (p : Seal2) (fits : AreParameters2 p) (json : FitsJson p) (back : Reads
         let random = random_stripes2 slot used.fits in
         record {
           kdf = slot.hash;
+          iterations = slot.iterations;
           af = slot.af_hash;
           mode = p.area_mode;
           is_kdf = refl;
@@ -227,10 +229,10 @@ module _ (p : Seal2) (fits : AreParameters2 p) (json : FitsJson p) (back : Reads
         }
 
     seals_key2 : SealsKey (V2 header_is (metadata_of p)) (image2_of p) p.key.now slot.number slot.passphrase.now
-    unfolding verdict_at
+    unfolding verdict_within
     seals_key2 = record {
       slot = slot_is p fits typed slot used;
-      usable = ap (λ bounds. verdict2_at (metadata_of p) bounds None slot.number) bounds_there
+      usable = ap (λ bounds. verdict2_at (metadata_of p) bounds (without_argon2 None) slot.number) bounds_there
           ∙ slot_usable p fits typed slot used;
       gives = subst (λ (parts : SlotParts). GivesKey parts slot.passphrase.now p.key.now (image2_of p))
           (sym (slot_parts p fits typed slot used)) gives2;

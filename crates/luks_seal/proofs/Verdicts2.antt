@@ -40,9 +40,13 @@ use Rattle.luks2_metadata.specs.Digest2.{own_digest_at}
 use Rattle.luks_seal.specs.Sealed.{IsDigestOf}
 use Rattle.luks_seal.proofs.MaterialLemmas.{derived_bytes}
 use Rattle.luks_seal.proofs.MaterialLemmas.{digest_fits, hash_is_named, area_fits, iterations_fit, stripes_fit}
+use Rattle.luks_verdict.specs.Derivation.{derivation_refusal, without_argon2}
+use Rattle.luks_verdict.specs.declared.derivation.Derivation.TheVariants.{Pbkdf2}
 use Rattle.luks_verdict.specs.declared.slot.SlotParts.{SlotParts}
-use Rattle.luks2_metadata.specs.Slot2.{has_members, is_af, is_area, is_kdf, is_pbkdf2, priority_of, reason2_of}
-use Rattle.luks2_metadata.specs.Slot2.{slot2_of, slot_parts2_of, verdict2_at, verdict2_of}
+use Rattle.luks2_metadata.specs.Kdf2.{kdf2_of, variant_of}
+use Rattle.luks2_metadata.specs.Slot2.{form_refusal, has_members, is_af, is_area, is_kdf, is_pbkdf2, material_refusal}
+use Rattle.luks2_metadata.specs.Slot2.{place_refusal, priority_of, reason2_of, slot2_of, slot_parts2_of, verdict2_at}
+use Rattle.luks2_metadata.specs.Slot2.{verdict2_of}
 use Rattle.luks_verdict.specs.Rule.{area_out_of_range, iterations_out_of_range, key_material_len, stripes_out_of_range}
 use Rattle.luks_verdict.specs.Slot.{has_no_usable_digest}
 use Rattle.luks_verdict.specs.declared.slot.Slot.{Slot}
@@ -77,8 +81,7 @@ pub record IsUsed (p : Seal2) (slot : Slot2) : Type 0 where
 abbrev pub parts_of : Seal2 → Slot2 → SlotParts
 parts_of p slot = record {
   priority = slot.priority;
-  kdf_hash = Some slot.hash;
-  iterations = slot.iterations;
+  derivation = Pbkdf2 (Some slot.hash) slot.iterations;
   salt = slot.salt;
   af_hash = Some slot.af_hash;
   stripes = slot.stripes;
@@ -246,10 +249,6 @@ module _ (p : Seal2) (fits : AreParameters2 p) (typed : AreTyped2 p) where
     unfolding kdf_object base64_member string_member
     slot_salt_is = base64_read slot.salt used.typed.salt
 
-    kdf_hash_is : in_member (codes "kdf") hash_member (keyslot_object p slot) ≡ Some slot.hash
-    unfolding keyslot_object kdf_object hash_member string_member
-    kdf_hash_is = (hash_is_named slot.hash).by_name
-
     af_hash_is : in_member (codes "af") hash_member (keyslot_object p slot) ≡ Some slot.af_hash
     unfolding keyslot_object af_object hash_member string_member
     af_hash_is = (hash_is_named slot.af_hash).by_name
@@ -258,10 +257,14 @@ module _ (p : Seal2) (fits : AreParameters2 p) (typed : AreTyped2 p) where
     unfolding keyslot_object priority_of integer_member
     priority_is = rw (le-leb slot.priority 2 used.fits.1) refl
 
+    derivation_is : kdf2_of (keyslot_object p slot) ≡ Pbkdf2 (Some slot.hash) slot.iterations
+    unfolding kdf2_of variant_of keyslot_object kdf_object string_is string_member integer_member hash_member
+    derivation_is = ap (λ hash. Pbkdf2 hash slot.iterations) (hash_is_named slot.hash).by_name
+
     slot_parts_are : slot_parts2_of (keyslot_object p slot) ≡ parts_of p slot
     unfolding slot_parts2_of keyslot_object kdf_object area_object af_object integer_member
     slot_parts_are =
-        rw (priority_is, kdf_hash_is, slot_salt_is, af_hash_is, area_offset_is, area_size_is, area_mode_is) refl
+        rw (priority_is, derivation_is, slot_salt_is, af_hash_is, area_offset_is, area_size_is, area_mode_is) refl
 
     -- ---- a key slot: its types
 
@@ -312,13 +315,31 @@ module _ (p : Seal2) (fits : AreParameters2 p) (typed : AreTyped2 p) where
         (omega (arith, ends_before, material_len)) fits.offset.1)
 
     -- no reason to skip the slot holds
-    no_reasons : reason2_of (metadata_of p) (bounds_of p) None slot.number (keyslot_object p slot) ≡ None
-    unfolding reason2_of keyslot_object kdf_object string_is string_member
-    no_reasons =
-        rw (slot_parts_are, members_ok, keys_fit, stripes_ok, iterations_ok, area_ok, digest_ok) refl
+    form_ok : form_refusal (without_argon2 None) (keyslot_object p slot) ≡ None
+    unfolding form_refusal variant_of keyslot_object kdf_object string_is string_member
+    form_ok = rw members_ok refl
+
+    material_ok : material_refusal (payload_mode2_of (metadata_of p) (bounds_of p)) (parts_of p slot) ≡ None
+    unfolding material_refusal
+    material_ok = rw (keys_fit, stripes_ok) refl
+
+    derivation_ok : derivation_refusal (without_argon2 None) (Pbkdf2 (Some slot.hash) slot.iterations) ≡ None
+    unfolding derivation_refusal
+    derivation_ok = rw iterations_ok refl
+
+    place_ok : place_refusal (metadata_of p) (bounds_of p) None slot.number (parts_of p slot) ≡ None
+    unfolding place_refusal
+    place_ok = rw (area_ok, digest_ok) refl
+
+    no_reasons : reason2_of (metadata_of p) (bounds_of p) (without_argon2 None) slot.number (keyslot_object p slot)
+        ≡ None
+    unfolding reason2_of
+    no_reasons = rw (slot_parts_are, form_ok, material_ok, derivation_ok, place_ok) refl
 
     parts_ok : are_in_range (slot_parts2_of (keyslot_object p slot)) ≡ true
-    parts_ok = (slot_there (metadata_of p) (bounds_of p) None slot.number (keyslot_object p slot) no_reasons).2
+    parts_ok =
+        (slot_there (metadata_of p) (bounds_of p) (without_argon2 None) slot.number (keyslot_object p slot)
+        no_reasons).2
 
     -- the slot, which has the stated parts and the digest of the key
     pub slot_is : Slot
@@ -337,7 +358,8 @@ module _ (p : Seal2) (fits : AreParameters2 p) (typed : AreTyped2 p) where
     there = rw (lt-ltb slot.number 32 low) (keyslot_found p slot.number 32 slot used.numbered low (omega arith))
 
     -- the slot is usable
-    pub slot_usable : verdict2_at (metadata_of p) (bounds_of p) None slot.number ≡ Some (Usable slot_is)
+    pub slot_usable : verdict2_at (metadata_of p) (bounds_of p) (without_argon2 None) slot.number
+        ≡ Some (Usable slot_is)
     unfolding verdict2_at verdict2_of slot2_of slot_is
     slot_usable =
         rw (there, no_reasons, digest_read, slot_from-yes (slot_parts2_of (keyslot_object p slot)) digest_is parts_ok)

@@ -13,6 +13,7 @@ use Rattle.luks_header_area.specs.Fields.{at}
 use Rattle.luks_verdict.specs.Rule.{key_material_len}
 use Rattle.luks_verdict.specs.SectorSize.{bytes_of}
 use Rattle.luks_verdict.specs.Segment.{unit_number}
+use Rattle.luks_verdict.specs.declared.derivation.Derivation.TheVariants.{Pbkdf2}
 use Rattle.luks_verdict.specs.declared.digest.KeyDigest.{KeyDigest}
 use Rattle.luks_verdict.specs.declared.segment.Segment.{Segment}
 use Rattle.luks_verdict.specs.declared.slot.Slot.{Slot}
@@ -44,16 +45,17 @@ pub record IsMaterial (af : Hash) (parts : SlotParts) (key material : List ℕ) 
 -- under the key that PBKDF2 derives from the passphrase, with sectors numbered from 0
 pub record GivesKey (parts : SlotParts) (passphrase key image : List ℕ) : Type 0 where
   pub kdf : Hash
+  pub iterations : ℕ
   pub af : Hash
   pub mode : Mode
-  pub is_kdf : parts.kdf_hash ≡ Some kdf
+  pub is_kdf : parts.derivation ≡ Pbkdf2 (Some kdf) iterations
   pub is_af : parts.af_hash ≡ Some af
   pub is_mode : parts.area_mode ≡ Some mode
   pub key_bytes : parts.key_bytes ≡ length key
   pub material : List ℕ
   pub is_material : IsMaterial af parts key material
   pub is_stored : IsStoredEncrypted
-      (mode, derived_key kdf passphrase parts.salt parts.iterations parts.area_key_bytes)
+      (mode, derived_key kdf passphrase parts.salt iterations parts.area_key_bytes)
       (λ i. i) 512 parts.area_offset material image
 
 -- the digest is that of the key: PBKDF2 of the key

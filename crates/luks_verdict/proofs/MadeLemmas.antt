@@ -4,9 +4,10 @@ use Rattle.std.specs.Prelude.{is_none, option_map}
 use Rattle.std.proofs.Math.Bool.{Bool-set}
 use Rattle.std.proofs.lemmas.Option.{none-some, same_Some}
 use Rattle.luks_cipher.specs.declared.mode.Mode.{Mode}
-use Rattle.luks_verdict.specs.Rule.{evidence_if, is_digest, is_in_range, iterations_out_of_range}
+use Rattle.luks_verdict.specs.Rule.{evidence_if, is_digest, iterations_out_of_range}
 use Rattle.luks_verdict.specs.SectorSize.{has_whole_sectors}
 use Rattle.luks_verdict.specs.Segment.{refused_or, segment_of_all}
+use Rattle.luks_verdict.specs.Derivation.{is_in_range}
 use Rattle.luks_verdict.specs.Slot.{digest_from, has_no_usable_digest, material_end}
 use Rattle.luks_verdict.specs.Slot.{slot_from, verdict_by, verdict_kind_of}
 use Rattle.luks_verdict.specs.declared.digest.DigestParts.{DigestParts}
@@ -32,7 +33,7 @@ evidence_if-no false is = refl
 
 -- the parts of a key slot are in range
 abbrev pub are_in_range : SlotParts → Bool
-are_in_range parts = is_in_range parts.iterations parts.stripes (material_end parts)
+are_in_range parts = is_in_range parts.derivation parts.stripes (material_end parts)
 
 -- the key slot with these parts, which are in range, and this digest
 unfoldable pub slot_of : (parts : SlotParts) (digest : KeyDigest) → are_in_range parts ≡ true → Slot

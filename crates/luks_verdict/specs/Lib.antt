@@ -1,3 +1,4 @@
+pub mod Derivation
 pub mod Rule
 pub mod SectorSize
 pub mod Segment

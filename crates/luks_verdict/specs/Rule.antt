@@ -41,11 +41,6 @@ area_out_of_range start payload offset size material_len =
     nat_lt offset start || nat_lt size material_len
     || exceeds payload (offset + material_len) || nat_lt max_loaded_len (offset + material_len)
 
--- the numbers of a slot are in range: its iterations, its stripes and where its key material ends
-unfoldable pub is_in_range : ℕ → ℕ → ℕ → Bool
-is_in_range iterations stripes end = not (iterations_out_of_range None iterations) && not (stripes_out_of_range stripes)
-    && not (nat_lt max_loaded_len end)
-
 -- a digest with this number of iterations and this length can be used: the iterations are in range without a limit, and
 -- it has 20 to 64 bytes
 unfoldable pub is_digest : ℕ → ℕ → Bool

@@ -1,7 +1,8 @@
 -- Key slots and digests, made from the parts that were read, and the verdicts on key slots.
 use Rattle.std.specs.Prelude.{ℕ, ◌+◌, Bool, true, Option, Some, None, length, option_map}
 use Rattle.std.specs.Option.{option_map_or}
-use Rattle.luks_verdict.specs.Rule.{evidence_if, is_digest, is_in_range, iterations_out_of_range, key_material_len}
+use Rattle.luks_verdict.specs.Derivation.{is_in_range}
+use Rattle.luks_verdict.specs.Rule.{evidence_if, is_digest, iterations_out_of_range, key_material_len}
 use Rattle.luks_verdict.specs.declared.digest.DigestParts.{DigestParts}
 use Rattle.luks_verdict.specs.declared.digest.KeyDigest.{KeyDigest}
 use Rattle.luks_verdict.specs.declared.refusal.SkipReason.{SkipReason}
@@ -22,7 +23,7 @@ material_end parts = parts.area_offset + key_material_len parts.key_bytes parts.
 unfoldable pub slot_from : SlotParts → Option KeyDigest → Option Slot
 slot_from parts (Some digest) =
     option_map (λ is. record { parts = parts; digest = digest; in_range = is })
-    (evidence_if (is_in_range parts.iterations parts.stripes (material_end parts)))
+    (evidence_if (is_in_range parts.derivation parts.stripes (material_end parts)))
 slot_from parts None = None
 
 -- a key slot can be tried if there is no reason to skip it. Without a reason the parts are in range and there is a

@@ -3,6 +3,7 @@
 #![tactic(auto)]
 
 pub mod bytes;
+pub mod derivation;
 pub mod digest;
 pub mod refusal;
 pub mod rule;

@@ -30,6 +30,16 @@ pub enum SkipReason {
     Stripes,
     /// The number of iterations is 0, above 4,294,967,295 or above the limit.
     Iterations,
+    /// LUKS2, if Argon2 is used: the time is not 1 to 4,294,967,295.
+    Argon2Time,
+    /// The same: the number of CPUs is not 1 to 16,777,215.
+    Argon2Cpus,
+    /// The same: the memory is less than 8 KiB for each CPU, or more than 4,294,967,295 KiB.
+    Argon2Memory,
+    /// The same: the memory is above the limit.
+    Argon2MemoryLimit,
+    /// The same: the memory, filled as often as the time says, is above the limit.
+    Argon2FillLimit,
     /// The key material starts inside the header, or it ends past byte 33,554,432 or past the
     /// payload's start. LUKS2: or the area's size is below what the key material needs. The
     /// payload's start is no bound for a detached header, nor, in LUKS2, if the segment is refused.
@@ -56,6 +66,11 @@ impl SkipReason {
             SkipReason::KeySize => "key size",
             SkipReason::Stripes => "stripes",
             SkipReason::Iterations => "iterations",
+            SkipReason::Argon2Time => "argon2 time",
+            SkipReason::Argon2Cpus => "argon2 cpus",
+            SkipReason::Argon2Memory => "argon2 memory",
+            SkipReason::Argon2MemoryLimit => "argon2 memory limit",
+            SkipReason::Argon2FillLimit => "argon2 fill limit",
             SkipReason::Area => "area",
             SkipReason::Digest => "digest",
         }

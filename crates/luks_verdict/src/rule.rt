@@ -1,7 +1,7 @@
 //! Rules for numbers, which hold for both formats.
 
 ghost use Rattle.std.specs.Prelude.{◌≡◌, ◌+◌, ◌<◌, ◌^◌};
-ghost use Rattle.luks_verdict.specs.Rule.{iterations_out_of_range, is_digest, is_in_range};
+ghost use Rattle.luks_verdict.specs.Rule.{iterations_out_of_range, is_digest};
 ghost use Rattle.luks_verdict.specs.Rule.{area_out_of_range, stripes_out_of_range};
 ghost use Rattle.luks_verdict.specs.Rule.{key_material_len};
 
@@ -17,7 +17,7 @@ pub const MAX_STRIPES: u64 = 4000;
 pub const MAX_ITERATION_COUNT: u64 = 4_294_967_295;
 
 /// The largest number of bytes of an image that are loaded.
-const MAX_LOADED_LEN: u64 = HeaderArea::MAX_LEN as u64;
+pub(crate) const MAX_LOADED_LEN: u64 = HeaderArea::MAX_LEN as u64;
 
 /// Whether this number of iterations is refused: 0, more than fits into four bytes, or above the
 /// limit.
@@ -67,20 +67,6 @@ pub fn area_out_of_range(
         || size < material_len
         || payload.is_some_and(|payload| payload < end)
         || MAX_LOADED_LEN < end
-}
-
-/// Whether the numbers of a slot are in range: its iterations, its stripes, and where the
-/// `material_len` bytes of its key material end.
-#[tactic(auto, unfolding(crate::specs::Rule::is_in_range))]
-pub fn in_range(iterations: u64, stripes: u64, offset: u64, material_len: u64) -> bool
-    ensures { result ≡ is_in_range iterations stripes (offset + material_len) }
-{
-    let Some(end) = offset.checked_add(material_len) else {
-        return false;
-    };
-    !iterations_out_of_range(None, iterations)
-        && !stripes_out_of_range(stripes)
-        && end <= MAX_LOADED_LEN
 }
 
 /// Whether a digest with this number of iterations and bytes can be used: the iterations are in

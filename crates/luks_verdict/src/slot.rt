@@ -1,12 +1,14 @@
 //! Key slots and the verdicts on them.
 
 ghost use Rattle.std.specs.Prelude.{◌≡◌, ◌+◌, true};
-ghost use Rattle.luks_verdict.specs.Rule.{is_in_range, key_material_len};
+ghost use Rattle.luks_verdict.specs.Rule.{key_material_len};
+ghost use Rattle.luks_verdict.specs.Derivation.{is_in_range};
 
 use crate::bytes::HeaderBytes;
+use crate::derivation::Derivation;
 use crate::digest::KeyDigest;
 use crate::refusal::SkipReason;
-use crate::rule::{in_range, key_material_len};
+use crate::rule::{MAX_LOADED_LEN, key_material_len, stripes_out_of_range};
 use luks_cipher::Mode;
 use luks_kdf::Hash;
 
@@ -15,12 +17,9 @@ use luks_kdf::Hash;
 pub struct SlotParts {
     /// Its priority: 2 is tried before 1, and 0 only if the slot is named.
     pub priority: u8,
-    /// The hash function with which PBKDF2 derives the key of the key material. `None` only for
-    /// LUKS1, if its name is not known.
-    pub kdf_hash: Option<Hash>,
-    /// The iterations of this PBKDF2.
-    pub iterations: u32,
-    /// The salt of this PBKDF2.
+    /// How the key of the key material is derived from a passphrase.
+    pub derivation: Derivation,
+    /// The salt of this derivation.
     pub salt: HeaderBytes,
     /// The hash function of the stripes. `None` only for LUKS1, if its name is not known.
     pub af_hash: Option<Hash>,
@@ -39,16 +38,28 @@ pub struct SlotParts {
     pub area_mode: Option<Mode>,
 }
 
-/// What is needed to open a key slot. Its numbers are in range: 1 to 4000 stripes, at least one
-/// iteration, and key material that ends within 33,554,432 bytes.
+/// What is needed to open a key slot. Its numbers are in range: those of its derivation, 1 to 4000
+/// stripes, and key material that ends within 33,554,432 bytes.
 #[derive(Drop, Debug)]
 pub struct Slot {
     /// Its parts, as they were read.
     pub parts: SlotParts,
     /// The digest that its volume key must match.
     pub digest: KeyDigest,
-    ghost in_range: { is_in_range parts.iterations parts.stripes
+    ghost in_range: { is_in_range parts.derivation parts.stripes
         (parts.area_offset + key_material_len parts.key_bytes parts.stripes) ≡ true },
+}
+
+// Whether the numbers of a slot are in range: those of its derivation, its stripes, and where the
+// `material_len` bytes of its key material end.
+#[tactic(auto, unfolding(crate::specs::Derivation::is_in_range))]
+fn in_range(derivation: Derivation, stripes: u32, offset: u64, material_len: u64) -> bool
+    ensures { result ≡ is_in_range derivation stripes (offset + material_len) }
+{
+    let Some(end) = offset.checked_add(material_len) else {
+        return false;
+    };
+    derivation.in_range() && !stripes_out_of_range(u64::from(stripes)) && end <= MAX_LOADED_LEN
 }
 
 impl Slot {
@@ -64,8 +75,8 @@ impl Slot {
     {
         let material_len = key_material_len(parts.key_bytes, parts.stripes);
         if !in_range(
-            u64::from(parts.iterations),
-            u64::from(parts.stripes),
+            parts.derivation,
+            parts.stripes,
             parts.area_offset,
             material_len,
         ) {

@@ -5,9 +5,11 @@ ghost use Rattle.luks2_json.specs.Member.{encryption_mode, in_member, string_mem
 ghost use Rattle.luks2_metadata.specs.Slot2.{slot_parts2_of, values_of};
 ghost use Rattle.serde_json.specs.View.{view as data_of};
 
+use crate::slot::derivation::derivation;
 use crate::slot::members::priority;
 use luks_cipher::Mode;
 use luks_kdf::Hash;
+use luks_verdict::derivation::Derivation;
 use luks2_json::derivation::nested_hash;
 use luks2_json::encryption::encryption_mode;
 use luks2_json::member::{integer_member, nested_decimal, nested_integer, nested_string};
@@ -19,10 +21,8 @@ use serde_json::Value;
 pub struct SlotValues {
     /// The priority of the slot: 1 if it has none.
     pub priority: u8,
-    /// The hash function with which PBKDF2 derives the key of the key material, if it is known.
-    pub kdf_hash: Option<Hash>,
-    /// The iterations of this PBKDF2.
-    pub iterations: u64,
+    /// How the key of the key material is derived from a passphrase.
+    pub derivation: Derivation,
     /// The hash function of the stripes, if it is known.
     pub af_hash: Option<Hash>,
     /// The number of stripes in the key material.
@@ -54,8 +54,7 @@ pub fn slot_values(slot: &Value) -> SlotValues
 {
     SlotValues {
         priority: priority(slot).unwrap_or(0),
-        kdf_hash: nested_hash(slot, "kdf"),
-        iterations: nested_integer(slot, "kdf", "iterations").unwrap_or(0),
+        derivation: derivation(slot),
         af_hash: nested_hash(slot, "af"),
         stripes: nested_integer(slot, "af", "stripes").unwrap_or(0),
         key_bytes: integer_member(slot, "key_size").unwrap_or(0),

@@ -8,7 +8,7 @@ ghost use Rattle.luks_audit.specs.Audit2.{strength2_of};
 ghost use Rattle.serde_json.specs.View.{view as data_of};
 
 use crate::weakness::{Derivation, DigestStrength, SlotStrength, is_capi_cbc, is_cbc};
-use luks2_json::derivation::{hash_member, iterations_in};
+use luks2_json::derivation::{hash_member, iterations_in, nested_hash};
 use luks2_json::member::{is_type, nested_integer, nested_string};
 use luks2_json::numbered::object_numbered;
 use luks2_metadata::slot::values::slot_values;
@@ -74,8 +74,8 @@ fn strength(slot: &Value) -> SlotStrength
     let values = slot_values(slot);
     SlotStrength {
         derivation: derivation(slot),
-        kdf_hash: values.kdf_hash,
-        iterations: values.iterations,
+        kdf_hash: nested_hash(slot, "kdf"),
+        iterations: nested_integer(slot, "kdf", "iterations").unwrap_or(0),
         memory: nested_integer(slot, "kdf", "memory").unwrap_or(0),
         af_hash: values.af_hash,
         is_cbc: names_cbc(nested_string(slot, "area", "encryption")),

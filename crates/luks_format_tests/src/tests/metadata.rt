@@ -1,6 +1,7 @@
 //! What no clause says: that the definitions mean what the format does, reason by reason and fault
 //! by fault, that they read JSON as it does, and that calls succeed.
 
+mod argon2;
 mod digests;
 mod fixture;
 mod kinds;

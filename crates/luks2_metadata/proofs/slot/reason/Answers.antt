@@ -1,16 +1,15 @@
-use Rattle.std.proofs.Common.{rules}
-use Rattle.luks2_metadata.proofs.SlotLemmas.{key_sizes_few, stripes_few}
+use Rattle.luks2_metadata.proofs.SlotLemmas.{material_small}
 use Rattle.luks2_metadata.proofs.slot.reason.Goals as goal
-use Rattle.luks2_metadata.specs.Slot2.{reason2_of, values_of}
+use Rattle.luks2_metadata.specs.Slot2.{slot_parts2_of, values_of}
+use Rattle.serde_json.specs.View.{view}
 
 pub is_area_out_of_range-requires-clause-short : goal.is_area_out_of_range-requires-clause-short
+unfolding values_of
 is_area_out_of_range-requires-clause-short c =
-    let values = c.args.values in
-    (key_sizes_few values.area_mode c.find_payload-payload.result.mode values.area_key_bytes values.key_bytes (cc)).1
+    rw c.requires (material_small c.find_payload-payload.result.mode (slot_parts2_of (view c.args.slot.now)) (cc)).key
 
 pub is_area_out_of_range-requires-clause-few : goal.is_area_out_of_range-requires-clause-few
-is_area_out_of_range-requires-clause-few c = stripes_few c.args.values.stripes (cc)
-
-pub returns-then-has_no_usable_digest : goal.returns-then-has_no_usable_digest
-unfolding reason2_of values_of
-returns-then-has_no_usable_digest c = search rules
+unfolding values_of
+is_area_out_of_range-requires-clause-few c =
+    rw c.requires
+    (material_small c.find_payload-payload.result.mode (slot_parts2_of (view c.args.slot.now)) (cc)).stripes

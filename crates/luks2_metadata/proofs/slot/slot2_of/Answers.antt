@@ -8,14 +8,10 @@ use Rattle.serde_json.specs.View.{view}
 -- there is no reason to skip the slot, so its numbers are small
 small : (c : goal.Else-is_some) → IsSmall (slot_parts2_of (view c.args.slot.now))
 small c =
-    let none : reason2_of c.args.metadata.now c.args.bounds None c.args.number (view c.args.slot.now) ≡ None =
-    ap (λ tree. reason2_of tree c.args.bounds None c.args.number (view c.args.slot.now)) (sym c.tree.ensures)
+    let none : reason2_of c.args.metadata.now c.args.bounds c.args.limits c.args.number (view c.args.slot.now) ≡ None =
+    ap (λ tree. reason2_of tree c.args.bounds c.args.limits c.args.number (view c.args.slot.now)) (sym c.tree.ensures)
     ∙ (sym c.reason.ensures ∙ none_from_not_some _ (sym c.is_some.ensures ∙ c.if-is_some.false)) in
-    small_of c.args.metadata.now c.args.bounds None c.args.number (view c.args.slot.now) none
-
-pub parts-requires-clause-iterations : goal.parts-requires-clause-iterations
-unfolding values_of
-parts-requires-clause-iterations c = rw c.slot_values-values.ensures (small c).iterations
+    small_of c.args.metadata.now c.args.bounds c.args.limits c.args.number (view c.args.slot.now) none
 
 pub parts-requires-clause-stripes : goal.parts-requires-clause-stripes
 unfolding values_of

@@ -9,6 +9,6 @@ use Rattle.serde_json.specs.View.{view}
 pub returns-in-None : goal.returns-in-None
 unfolding values_of
 returns-in-None c =
-    let is = usable_verdict (view c.args.tree.now) c.args.bounds c.args.limit c.args.number (view c.args.slot.now)
+    let is = usable_verdict (view c.args.tree.now) c.args.bounds c.args.limits c.args.number (view c.args.slot.now)
     (cc) in
     ap (λ (values : SlotValues). Usable values.priority) c.slot_values-values.ensures ∙ sym is

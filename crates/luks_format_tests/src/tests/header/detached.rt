@@ -3,6 +3,7 @@
 use super::fixture::{changed, image2, read};
 use super::validation::{Numbers, PAYLOAD_OFFSET, SLOT_OFFSET, fault_of, is_there};
 use crate::tests::shared::{assert_of, kept};
+use luks_header::derivation::Limits;
 use luks_header::header::Header;
 use luks_header::slot::{VerdictKind, verdict_kind};
 use std::process::Abort;
@@ -25,7 +26,7 @@ const SEGMENT: &str = "\"segments\":{\"0\":{\"type\":\"crypt\",\"size\":\"dynami
 
 // The verdict on key slot 0.
 fn slot_word(header: &Header) -> &'static str {
-    match verdict_kind(header, None, 0) {
+    match verdict_kind(header, Limits::without_argon2(None), 0) {
         Some(VerdictKind::Usable(_)) => "usable",
         Some(VerdictKind::Disabled) => "disabled",
         Some(VerdictKind::Skipped(reason)) => reason.text(),

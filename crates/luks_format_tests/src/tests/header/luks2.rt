@@ -3,6 +3,7 @@
 use super::fixture::{check_fault, read_from, verdicts};
 use super::validation::has_digest;
 use crate::tests::shared::assert_of;
+use luks_header::derivation::Limits;
 use luks_header::fault::HeaderFault;
 use luks_header::header::{Header, HeaderRole, PairFinding};
 use luks_header::payload::segment;
@@ -39,7 +40,11 @@ fn has_fields(header: &Header) -> bool {
 fn check_header(rt: &(impl Abort + AllocGlobal), header: &Header) {
     let fault = segment(header).err();
     assert_of(rt, "segment", fault == Some(SegmentFault::Segments));
-    assert_of(rt, "slot 0", verdict_kind(header, None, 0).is_none());
+    assert_of(
+        rt,
+        "slot 0",
+        verdict_kind(header, Limits::without_argon2(None), 0).is_none(),
+    );
     assert_of(rt, "digest", !has_digest(rt, header, 0));
     assert_of(rt, "slots", verdicts(rt, header, None).is_empty());
     assert_of(rt, "fields", has_fields(header));

@@ -3,6 +3,7 @@
 use super::fixture::{first, verdicts};
 use crate::tests::shared::{assert_in, assert_of};
 use luks_cipher::Mode;
+use luks_header::derivation::{Derivation, Limits};
 use luks_header::digest::{KeyDigest, digest_for};
 use luks_header::header::Header;
 use luks_header::payload::segment;
@@ -28,7 +29,7 @@ pub(super) const DIGEST_ITERATIONS: usize = 164;
 
 // Whether there is what is needed to open a slot.
 pub(super) fn is_there(rt: &(impl Abort + AllocGlobal), header: &Header, number: u8) -> bool {
-    slot(rt.alloc(), header, number)
+    slot(rt.alloc(), header, Limits::without_argon2(None), number)
         .expect(rt, "memory")
         .is_some()
 }
@@ -161,17 +162,13 @@ fn each_bound_of_a_slot(rt: HostRuntime) {
 // areas are whole sectors.
 fn has_parts(slot: &Slot, stripes: u32, hash: Option<Hash>) -> bool {
     let parts = &slot.parts;
-    let numbers = [
-        parts.iterations,
-        parts.stripes,
-        parts.key_bytes,
-        parts.area_key_bytes,
-    ];
+    let numbers = [parts.stripes, parts.key_bytes, parts.area_key_bytes];
     let sizes = [slot.key_material_len(), parts.area_size, parts.area_offset];
     let (salt, value) = (parts.salt.as_slice(), slot.digest.parts.value.as_slice());
-    (numbers == [1000, stripes, 64, 64])
+    (parts.derivation == Derivation::Pbkdf2(hash, 1000))
+        & (numbers == [stripes, 64, 64])
         & (parts.priority == 1)
-        & ([parts.kdf_hash, parts.af_hash] == [hash, hash])
+        & (parts.af_hash == hash)
         & (sizes == [256_000, 256_000, 4096])
         & (parts.area_mode == Some(Mode::XtsPlain64))
         & (salt.len() == 32)
@@ -322,7 +319,7 @@ static VERDICTS: [VerdictRow; 7] = [
 
 fn check_verdict_kinds(rt: &(impl Abort + AllocGlobal), header: &Header, rows: &[VerdictRow]) {
     for (limit, number, want) in rows {
-        let is_so = verdict_kind(header, *limit, *number) == *want;
+        let is_so = verdict_kind(header, Limits::without_argon2(*limit), *number) == *want;
         let there = is_there(rt, header, *number);
         assert_in(rt, usize::from(*number), is_so & ((*number < 8) | !there));
     }

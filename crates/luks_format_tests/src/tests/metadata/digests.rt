@@ -4,6 +4,7 @@ use super::fixture::{ATTACHED, joined, metadata};
 use super::tables::{Subject, check_rows};
 use crate::tests::shared::assert_of;
 use luks_kdf::Hash;
+use luks_verdict::derivation::Limits;
 use luks_verdict::digest::KeyDigest;
 use luks_verdict::refusal::SkipReason;
 use luks_verdict::slot::VerdictKind;
@@ -48,7 +49,7 @@ pub(super) fn verdict(
     } else {
         NO_USABLE_DIGEST
     };
-    let agrees = verdict_kind(metadata, bounds, None, 2) == Some(kind);
+    let agrees = verdict_kind(metadata, bounds, Limits::without_argon2(None), 2) == Some(kind);
     assert_of(rt, "the slot's verdict", agrees);
     match (first_usable(rt, metadata), found) {
         (Some(true), Some(1)) => "1",
@@ -183,8 +184,8 @@ fn the_digests_as_they_are(rt: HostRuntime) {
 #[test]
 fn limits_on_digests(rt: HostRuntime) {
     let more = metadata(&rt, "'iterations':1000 -> 'iterations':2000");
-    let below = verdict_kind(more, ATTACHED, Some(1999), 2);
+    let below = verdict_kind(more, ATTACHED, Limits::without_argon2(Some(1999)), 2);
     assert_of(&rt, "1999", below == Some(NO_USABLE_DIGEST));
-    let enough = verdict_kind(more, ATTACHED, Some(2000), 2);
+    let enough = verdict_kind(more, ATTACHED, Limits::without_argon2(Some(2000)), 2);
     assert_of(&rt, "2000", enough == Some(VerdictKind::Usable(1)));
 }

@@ -6,13 +6,15 @@ use super::tables::{Subject, check_rows, check_verdicts};
 use crate::tests::shared::assert_of;
 use luks_cipher::Mode;
 use luks_kdf::Hash;
+use luks_verdict::derivation::{Derivation, Limits};
 use luks_verdict::slot::{Slot, VerdictKind};
 use luks2_json::tree::Metadata;
 use luks2_metadata::bounds::Bounds;
 use luks2_metadata::slot::{slot, verdict_kind};
 use std::process::Abort;
 
-fn word(kind: Option<VerdictKind>) -> &'static str {
+/// A verdict in a word.
+pub(super) fn word(kind: Option<VerdictKind>) -> &'static str {
     match kind {
         Some(VerdictKind::Usable(0)) => "usable 0",
         Some(VerdictKind::Usable(1)) => "usable 1",
@@ -31,8 +33,15 @@ pub(super) fn verdict(
     metadata: &Metadata,
     bounds: Bounds,
 ) -> &'static str {
-    let word = word(verdict_kind(metadata, bounds, None, 2));
-    let slot = slot(rt.alloc(), metadata, bounds, 2).expect(rt, "memory");
+    let word = word(verdict_kind(metadata, bounds, Limits::without_argon2(None), 2));
+    let slot = slot(
+        rt.alloc(),
+        metadata,
+        bounds,
+        Limits::without_argon2(None),
+        2,
+    )
+    .expect(rt, "memory");
     assert_of(rt, word, slot.is_some() == word.starts_with("usable"));
     word
 }
@@ -40,16 +49,11 @@ pub(super) fn verdict(
 // Whether a slot has what is needed to open slot 2 of the text.
 fn has_values(slot: &Slot) -> bool {
     let parts = &slot.parts;
-    let hashes = [parts.kdf_hash, parts.af_hash];
-    let numbers = [
-        parts.iterations,
-        parts.stripes,
-        parts.key_bytes,
-        parts.area_key_bytes,
-    ];
+    let numbers = [parts.stripes, parts.key_bytes, parts.area_key_bytes];
     let area = [parts.area_offset, parts.area_size, slot.key_material_len()];
-    (hashes == [Some(Hash::Sha256), Some(Hash::Sha512)])
-        & (numbers == [1000, 4000, 64, 64])
+    (parts.derivation == Derivation::Pbkdf2(Some(Hash::Sha256), 1000))
+        & (parts.af_hash == Some(Hash::Sha512))
+        & (numbers == [4000, 64, 64])
         & (parts.priority == 1)
         & (parts.salt.as_slice() == [1u8; 32].as_slice())
         & (area == [32_768, 258_048, 256_000])
@@ -74,10 +78,18 @@ static VERDICTS: [(u8, Option<u32>, &str); 9] = [
 fn the_slots_as_they_are(rt: HostRuntime) {
     let metadata = metadata(&rt, "");
     for (number, limit, want) in &VERDICTS {
-        let word = word(verdict_kind(metadata, ATTACHED, *limit, *number));
+        let limits = Limits::without_argon2(*limit);
+        let word = word(verdict_kind(metadata, ATTACHED, limits, *number));
         assert_answer(&rt, want, word, want);
     }
-    let slot = slot(rt.alloc(), metadata, ATTACHED, 2).expect(&rt, "memory");
+    let slot = slot(
+        rt.alloc(),
+        metadata,
+        ATTACHED,
+        Limits::without_argon2(None),
+        2,
+    )
+    .expect(&rt, "memory");
     assert_of(&rt, "values", has_values(&slot.expect(&rt, "slot 2")));
 }
 

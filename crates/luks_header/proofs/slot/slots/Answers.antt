@@ -3,7 +3,7 @@ use Rattle.std.specs.List.{cons_option}
 use Rattle.luks_verdict.proofs.TableLemmas.{length-ascending, ascending_more, ascending_none}
 use Rattle.luks_verdict.specs.Table.{ascending}
 use Rattle.luks_verdict.specs.declared.slot.Verdict.{Verdict}
-use Rattle.luks_header.specs.SlotVerdicts.{numbered_verdict, verdicts_of, with_number}
+use Rattle.luks_header.specs.SlotVerdicts.{numbered_verdict, verdict_within, verdicts_of, with_number}
 use Rattle.luks_header.proofs.slot.slots.Goals as goal
 
 pub loop-number-init : goal.loop-number-init
@@ -17,7 +17,8 @@ loop-number-preserved c =
     c.in_ok-push_verdict.ensures
     ∙ ap (λ (l : List (ℕ × Verdict)). l ++ cons_option (with_number n c.in_ok-verdict.verdict) [])
     c.loop-number.invariant
-    ∙ ap (λ verdict. ascending f n ++ cons_option (with_number n verdict) []) c.in_ok-verdict.ensures.value
+    ∙ ap (λ verdict. ascending f n ++ cons_option (with_number n verdict) []) (c.in_ok-verdict.ensures.value
+    ∙ ap (λ limits. verdict_within c.args.header.now limits n) c.without_argon2.ensures)
     ∙ sym (ascending_more f n)
 
 pub returns-clause-value : goal.returns-clause-value

@@ -5,5 +5,5 @@ use Rattle.luks_key_slots.proofs.ordering.has_priority.Goals as goal
 pub returns-in-Some-Usable : goal.returns-in-Some-Usable
 returns-in-Some-Usable c =
     let verdict_is = sym c.verdict_kind.ensures ∙ (c.in-Some-Usable.is ∙ ap Some c.in-Some-Usable.field-0-is) in
-    sym (usable_there c.args.header.now c.args.limit c.args.priority c.args.number
+    sym (usable_there c.args.header.now c.args.limits c.args.priority c.args.number
     (rw c.if-its-priority.true at verdict_is))

@@ -1,12 +1,12 @@
 use Rattle.std.proofs.Common.{◌∙◌, Some, Ok, ap, sym, inr}
-use Rattle.luks_header.specs.SlotVerdicts.{verdict_at}
+use Rattle.luks_header.specs.SlotVerdicts.{verdict_within}
 use Rattle.luks_key_slots.specs.Opening.{order_of_named}
 use Rattle.luks_key_slots.proofs.CallerLemmas.{named_tried}
 use Rattle.luks_key_slots.proofs.ordering.order_named.Goals as goal
 
 pub returns-in_err-verdict-clause-memory : goal.returns-in_err-verdict-clause-memory
 returns-in_err-verdict-clause-memory c = λ memory.
-    named_tried c.args.named (verdict_at c.args.header.now c.args.limit c.args.named) c.in_err-verdict.ensures.err
+    named_tried c.args.named (verdict_within c.args.header.now c.args.limits c.args.named) c.in_err-verdict.ensures.err
 
 pub returns-in-None-clause-answer : goal.returns-in-None-clause-answer
 returns-in-None-clause-answer c =

@@ -16,28 +16,28 @@ nothing_added entries (Some entry) none = absurd cc
 pub returns-then-not-has_priority-clause-ok : goal.returns-then-not-has_priority-clause-ok
 returns-then-not-has_priority-clause-ok c =
     nothing_added c.args.entries.now.items
-    (tried_with c.args.header.now c.args.limit c.args.priority c.args.number)
+    (tried_with c.args.header.now c.args.limits c.args.priority c.args.number)
     (sym c.has_priority.ensures ∙ c.if-not-has_priority.true)
 
 pub returns-in_err-verdict-clause-err : goal.returns-in_err-verdict-clause-err
 returns-in_err-verdict-clause-err c =
-    let some : IsSome (tried_with c.args.header.now c.args.limit c.args.priority c.args.number) =
+    let some : IsSome (tried_with c.args.header.now c.args.limits c.args.priority c.args.number) =
     sym c.has_priority.ensures ∙ c.if-not-has_priority.false in
     search (rules, some)
 
 pub returns-in_err-push-clause-err : goal.returns-in_err-push-clause-err
 returns-in_err-push-clause-err c =
-    let some : IsSome (tried_with c.args.header.now c.args.limit c.args.priority c.args.number) =
+    let some : IsSome (tried_with c.args.header.now c.args.limits c.args.priority c.args.number) =
     sym c.has_priority.ensures ∙ c.if-not-has_priority.false in
     search (rules, some)
 
 pub returns-clause-ok : goal.returns-clause-ok
 returns-clause-ok c =
-    let some : IsSome (tried_with c.args.header.now c.args.limit c.args.priority c.args.number) =
+    let some : IsSome (tried_with c.args.header.now c.args.limits c.args.priority c.args.number) =
     sym c.has_priority.ensures ∙ c.if-not-has_priority.false in
     let verdict_is = sym c.in_ok-verdict.ensures.value
     ∙ (c.in-Some-Usable.is ∙ ap Some c.in-Some-Usable.field-0-is) in
-    let tried = tried_usable c.args.header.now c.args.limit c.args.priority c.args.number c.in-Some-Usable.slot
+    let tried = tried_usable c.args.header.now c.args.limits c.args.priority c.args.number c.in-Some-Usable.slot
     verdict_is some in
     c.in_ok-push.ensures.items
     ∙ ap (λ (entry : Option Entry). c.args.entries.now.items ++ cons_option entry []) (sym tried)

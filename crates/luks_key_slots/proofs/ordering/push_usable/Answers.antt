@@ -9,20 +9,20 @@ use Rattle.luks_key_slots.proofs.ordering.push_usable.Goals as goal
 
 pub loop-number-init : goal.loop-number-init
 loop-number-init c =
-    let f = tried_with c.args.header.now c.args.limit c.args.priority in
+    let f = tried_with c.args.header.now c.args.limits c.args.priority in
     sym (append-nil c.args.entries.now.items)
     ∙ ap (λ (l : List Entry). c.args.entries.now.items ++ l) (sym (ascending_none f))
 
 pub returns-in_err-push_tried-clause-err : goal.returns-in_err-push_tried-clause-err
 returns-in_err-push_tried-clause-err c =
-    let f = tried_with c.args.header.now c.args.limit c.args.priority in
+    let f = tried_with c.args.header.now c.args.limits c.args.priority in
     let many : 1 ≤ length (ascending f 32) =
     some_ascending f c.loop-number.number 32 c.in_err-push_tried.ensures.err (omega arith) in
     search (rules, many)
 
 pub loop-number-preserved : goal.loop-number-preserved
 loop-number-preserved c =
-    let f = tried_with c.args.header.now c.args.limit c.args.priority in
+    let f = tried_with c.args.header.now c.args.limits c.args.priority in
     let n = c.loop-number.number in
     let old = c.args.entries.now.items in
     c.in_ok-push_tried.ensures.ok

@@ -6,4 +6,4 @@ use Rattle.luks_key_slots.proofs.ordering.push_usable.Given as goal
 -- the key slots of this priority before this number were appended
 abbrev pub invariant-loop-number : goal.invariant-loop-number
 invariant-loop-number l = l.entries.items ≡ l.fn.entries.items
-    ++ ascending (tried_with l.header l.limit l.priority) l.number
+    ++ ascending (tried_with l.header l.limits l.priority) l.number

@@ -10,20 +10,20 @@ beside : ℕ → Option SkipReason → Option (ℕ × SkipReason)
 beside number reason = option_map (λ r. (number, r)) reason
 
 pub loop-number-init : goal.loop-number-init
-loop-number-init c = c.new-skipped.ensures ∙ sym (ascending_none (skipped_at c.args.header.now c.args.limit))
+loop-number-init c = c.new-skipped.ensures ∙ sym (ascending_none (skipped_at c.args.header.now c.args.limits))
 
 pub push-requires : goal.push-requires
 push-requires c =
     omega (
       arith,
       ap length c.loop-number.invariant,
-      length-ascending (skipped_at c.args.header.now c.args.limit) c.loop-number.number,
+      length-ascending (skipped_at c.args.header.now c.args.limits) c.loop-number.number,
     )
 
 pub loop-number-preserved : goal.loop-number-preserved
 unfolding beside
 loop-number-preserved c =
-    let f = skipped_at c.args.header.now c.args.limit in
+    let f = skipped_at c.args.header.now c.args.limits in
     let n = c.loop-number.number in
     elim c.match-skip_reason.branch [
       | in-Some w ↦

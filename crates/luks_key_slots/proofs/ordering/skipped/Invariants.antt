@@ -5,4 +5,4 @@ use Rattle.luks_key_slots.proofs.ordering.skipped.Given as goal
 
 -- the skipped ones among the key slots before this number
 abbrev pub invariant-loop-number : goal.invariant-loop-number
-invariant-loop-number l = l.skipped ≡ ascending (skipped_at l.header l.limit) l.number
+invariant-loop-number l = l.skipped ≡ ascending (skipped_at l.header l.limits) l.number

@@ -1,13 +1,17 @@
 //! The lines of key slots.
 
 ghost use Rattle.std.specs.Prelude.{◌≡◌, ◌++◌, None, IfOk, OnOk, flat_map, string_bytes};
-ghost use Rattle.luks_report.specs.Dump2.{hash_text, slot2_line, usable_text, verdict_text};
+ghost use Rattle.luks_report.specs.Dump2.{hash_text, kdf_text, slot2_line, usable_text};
+ghost use Rattle.luks_report.specs.Dump2.{variant_text, verdict_text};
+ghost use Rattle.luks_verdict.specs.declared.derivation.Derivation.{Derivation};
 ghost use Rattle.luks_header.specs.SlotVerdicts.{verdicts_of};
 
 use crate::dump_line::push_field;
+use luks_argon2::Variant;
 use luks_header::header::Header;
 use luks_header::slot::slots;
 use luks_kdf::Hash;
+use luks_verdict::derivation::{Argon2Parameters, Derivation};
 use luks_verdict::slot::{SlotParts, Verdict};
 use std::alloc::{AllocError, Global};
 
@@ -66,13 +70,49 @@ fn describe_usable(alloc: Global, parts: &SlotParts) -> Result<String, AllocErro
     ensures { IfOk result (λ text. string_bytes text ≡ usable_text parts.now) }
 {
     let priority = parts.priority;
-    let hash = hash_text(parts.kdf_hash);
-    let iterations = parts.iterations;
+    let kdf = kdf_text(alloc, parts.derivation)?;
+    let kdf = kdf.as_str();
     let offset = parts.area_offset;
     let size = parts.area_size;
-    let mut text = format!(in alloc; "USABLE priority={priority} kdf=pbkdf2 hash={hash}")?;
-    write!(text, " iterations={iterations} offset={offset} size={size}")?;
+    let mut text = format!(in alloc; "USABLE priority={priority} kdf={kdf}")?;
+    write!(text, " offset={offset} size={size}")?;
     Ok(text)
+}
+
+// How the key of a slot is derived.
+#[tactic(auto, unfolding(crate::specs::Dump2::kdf_text))]
+fn kdf_text(alloc: Global, derivation: Derivation) -> Result<String, AllocError>
+    ensures { IfOk result (λ text. string_bytes text ≡ kdf_text derivation) }
+{
+    match derivation {
+        Derivation::Pbkdf2(hash, iterations) => {
+            let hash = hash_text(hash);
+            format!(in alloc; "pbkdf2 hash={hash} iterations={iterations}")
+        }
+        Derivation::Argon2(parameters) => argon2_text(alloc, parameters),
+    }
+}
+
+// How Argon2 derives the key of a slot.
+#[tactic(auto, unfolding(crate::specs::Dump2::kdf_text))]
+fn argon2_text(alloc: Global, parameters: Argon2Parameters) -> Result<String, AllocError>
+    ensures { IfOk result (λ text. string_bytes text ≡ kdf_text (Derivation.Argon2 parameters)) }
+{
+    let variant = variant_text(parameters.variant);
+    let passes = parameters.passes;
+    let memory_kib = parameters.memory_kib;
+    let lanes = parameters.lanes;
+    format!(in alloc; "{variant} time={passes} memory={memory_kib} cpus={lanes}")
+}
+
+// The name of a variant of Argon2.
+fn variant_text(variant: Variant) -> &'static str
+    ensures { result.now ≡ variant_text variant }
+{
+    match variant {
+        Variant::Argon2i => "argon2i",
+        Variant::Argon2id => "argon2id",
+    }
 }
 
 /// The name of a hash function, or nothing if it is not known.

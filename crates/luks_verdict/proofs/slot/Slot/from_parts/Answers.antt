@@ -6,13 +6,11 @@ use Rattle.luks_verdict.proofs.slot.Slot.from_parts.Goals as goal
 pub returns-then-not-in_range : goal.returns-then-not-in_range
 returns-then-not-in_range c =
     sym (slot_from-no c.args.parts c.args.digest
-    (rw (c.from.ensures, c.from-2.ensures, c.key_material_len-material_len.ensures) at
-    (sym c.in_range.ensures ∙ c.if-not-in_range.true)))
+    (rw c.key_material_len-material_len.ensures at (sym c.in_range.ensures ∙ c.if-not-in_range.true)))
 
 pub invariant_of-result : goal.invariant_of-result
 invariant_of-result c = record {
-  in_range = rw (c.from.ensures, c.from-2.ensures, c.key_material_len-material_len.ensures) at
-      (sym c.in_range.ensures ∙ c.if-not-in_range.false);
+  in_range = rw c.key_material_len-material_len.ensures at (sym c.in_range.ensures ∙ c.if-not-in_range.false);
 }
 
 pub returns : goal.returns

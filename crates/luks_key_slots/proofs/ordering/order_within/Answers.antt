@@ -1,7 +1,7 @@
-use Rattle.luks_key_slots.specs.Opening.{order_of}
-use Rattle.luks_key_slots.proofs.ordering.order.Goals as goal
+use Rattle.luks_key_slots.specs.Opening.{order_within}
+use Rattle.luks_key_slots.proofs.ordering.order_within.Goals as goal
 
 pub returns-in-None : goal.returns-in-None
-unfolding order_of
+unfolding order_within
 returns-in-None c =
     record { answer = rw c.in-None.is c.order_all.ensures.answer; memory = rw c.in-None.is c.order_all.ensures.memory }
