@@ -1,5 +1,6 @@
-//! Small volumes of LUKS1 that are opened.
+//! Small volumes that are opened.
 
+mod argon2;
 mod opening;
 mod ordering;
 mod volumes;
