@@ -1,6 +1,6 @@
 //! The memory that was last asked for.
 
-ghost use Rattle.std.specs.Prelude.{◌≡◌, IfOk, length};
+ghost use Rattle.std.specs.Prelude.{◌≡◌, IfOk};
 ghost use Rattle.luks_argon2.specs.Parameters.{memory_blocks};
 
 use luks_argon2::{Memory, Parameters};
@@ -13,11 +13,11 @@ pub(crate) struct HeldMemory {
     pub(crate) memory: Memory,
     /// The number of its blocks.
     pub(crate) blocks: usize,
-    ghost counted: { length memory ≡ blocks },
+    ghost counted: { memory ≡ blocks },
 }
 
 /// Memory for these parameters: what is held if it has their size, or else new memory, after the
-/// old was written over and freed.
+/// old was freed.
 ///
 /// # Errors
 ///
@@ -30,13 +30,11 @@ pub(crate) fn memory_for(
     ensures { IfOk result (λ held. held.blocks
         ≡ memory_blocks parameters.memory_kib parameters.lanes) }
 {
-    let mut blocks = parameters.memory_blocks();
+    let blocks = parameters.memory_blocks();
     if let Some(old) = held {
         if old.blocks == blocks {
             return Ok(old);
         }
-        let mut memory = old.memory;
-        blocks = memory.wipe(blocks as u64) as usize;
     }
     let memory = Memory::new(alloc, parameters)?;
     Ok(HeldMemory { memory, blocks })

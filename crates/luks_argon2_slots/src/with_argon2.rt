@@ -19,7 +19,7 @@ use std::marker::Model;
 /// Derives keys by PBKDF2 and Argon2.
 ///
 /// Memory is asked for when a key needs it, in one allocation. It is kept for further keys that
-/// need as much; `wipe` writes zeros over it, to be called before this is let go.
+/// need as much, and holds zeros between two of them.
 ///
 /// Contracts see how many blocks of 1 KiB were filled.
 #[derive(Drop)]
@@ -59,23 +59,6 @@ impl WithArgon2 {
         ensures { result ≡ self.now }
     {
         self.blocks
-    }
-
-    /// Writes zeros over the memory and frees it.
-    ///
-    /// Returns `code`, a value that the compiler cannot know. The caller uses the result in its
-    /// place: that keeps the compiler from dropping the writes.
-    pub fn wipe(&mut self, code: u64) -> u64
-        ensures code { result ≡ code }
-        ensures filled { self.new ≡ self.old }
-    {
-        match self.held.take() {
-            Some(held) => {
-                let mut memory = held.memory;
-                memory.wipe(code)
-            }
-            None => code,
-        }
     }
 
     // The key of `len` bytes that Argon2 derives with these parameters.

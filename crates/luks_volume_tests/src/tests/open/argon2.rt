@@ -214,7 +214,6 @@ fn each_passphrase_opens_its_slot(rt: HostRuntime) {
             opens && counts == [*evaluations, *blocks],
             "{slot:?}: {counts:?}"
         );
-        assert!(rt; derive.wipe(7) == 7);
     }
 }
 
@@ -231,7 +230,6 @@ fn several_passphrases_share_one_memory(rt: HostRuntime) {
         assert!(rt; opening.is_ok() == (pass == b"fourth".as_slice()));
     }
     assert!(rt; [work.count(), derive.filled_blocks()] == [12, 768]);
-    assert!(rt; derive.wipe(1) == 1);
 }
 
 // Slot 3 comes first. Its memory is refused, and no other slot is tried.
