@@ -4,6 +4,7 @@ from __future__ import annotations
 
 import argparse
 import contextlib
+import importlib
 import os
 import re
 import signal
@@ -101,17 +102,20 @@ class _Parser(argparse.ArgumentParser):
         self.exit(USAGE)
 
 
-def _parser() -> argparse.ArgumentParser:
-    # (they use this module)
-    from . import decrypt, look, serve, trying  # pylint: disable=import-outside-toplevel
+# The subcommands, and the modules that have them
+_COMMANDS = {"look": "look", "decrypt": "decrypt", "try": "trying", "serve": "serve"}
 
+
+def _parser(words: Sequence[str]) -> argparse.ArgumentParser:
     parser = _Parser(
         prog=PROGRAM, epilog=EXAMPLES,
         description="Find LUKS volumes in the image of a disk, and bring their plaintext to safety.")
     parser.add_argument("--version", action="version", version=f"{PROGRAM} {__version__}")
     subparsers = parser.add_subparsers(metavar="COMMAND", required=True)
-    for module in look, decrypt, trying, serve:
-        module.register(subparsers)
+    # (the others would only have to be loaded)
+    named = _COMMANDS.get(words[0]) if words else None
+    for module in [named] if named else _COMMANDS.values():
+        importlib.import_module(f"{__package__}.{module}").register(subparsers)
     return parser
 
 
@@ -130,8 +134,8 @@ def _prepare_streams() -> None:
         getattr(sys, name).reconfigure(errors="backslashreplace")
 
 
-def _run(words: Optional[Sequence[str]]) -> int:
-    arguments = _parser().parse_args(words)
+def _run(words: Sequence[str]) -> int:
+    arguments = _parser(words).parse_args(words)
     status = arguments.run(arguments)
     sys.stdout.flush()
     return status
@@ -191,7 +195,7 @@ def main(words: Optional[Sequence[str]] = None) -> int:
     _prepare_streams()
     try:
         with _interruptible():
-            return _run(words)
+            return _run(sys.argv[1:] if words is None else words)
     except KeyboardInterrupt:
         say("", "interrupted")
         return INTERRUPTED

@@ -8,7 +8,7 @@ import os
 import re
 from typing import NamedTuple, Optional
 
-from . import choosing, contents, maps, resuming, terminal, unlocking, working
+from . import choosing, maps, resuming, terminal, unlocking, working
 from .command import (FAILED, IMAGE, INTERRUPTED, USAGE, Refusal, number, say, shown, sized)
 from .image import Image, Loaded, open_image
 from .words import quoted
@@ -254,6 +254,7 @@ def _missing(arguments: argparse.Namespace, volume: choosing.Volume, begun: _Beg
 
 def _describe(arguments: argparse.Namespace, begun: _Begun) -> None:
     """What the plaintext is, and the next command."""
+    from . import contents  # (which is loaded only when it is needed)
     slot = begun.payload.volume.key_slot
     by = "the volume key" if slot is None else f"key slot {slot}"
     print(f"{shown(arguments.output)}: {sized(begun.length)}, opened by {by}")

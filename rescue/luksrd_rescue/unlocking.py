@@ -89,6 +89,11 @@ def unlock(image: Image, volume: choosing.Volume, arguments: argparse.Namespace,
     """Opens the volume, asking for the passphrase up to three times if the options name no key. Its
     payload is read from `source`, or else from the image."""
     check_options(arguments)
+    try:
+        luksrd.library_version()
+    except OSError as error:
+        raise Refusal(USAGE, "", "the library of luksrd is not found: install libluksrd2, or name its "
+                      f"file by LUKSRD_LIBRARY ({error})") from error
     with contextlib.ExitStack() as cleanup:
         attempt = _Attempt(image, volume, arguments, source or image, cleanup)
         if arguments.volume_key_file is not None:

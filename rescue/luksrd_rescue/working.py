@@ -111,8 +111,8 @@ class Work:
     def run(self, progress: Progress) -> None:
         """Decrypts all parts. However it ends, what is written is on the disk, and in the map."""
         workers = [threading.Thread(target=self._work, daemon=True) for _ in range(self._threads)]
-        keeper = threading.Thread(target=self._keep, daemon=True)
-        for thread in [*workers, keeper]:
+        keepers = [threading.Thread(target=self._keep, daemon=True)] if self._map_path is not None else []
+        for thread in [*workers, *keepers]:
             thread.start()
         try:
             for thread in workers:
@@ -121,7 +121,7 @@ class Work:
                     self._show(progress)
         finally:
             self._end(None)
-            for thread in [*workers, keeper]:
+            for thread in [*workers, *keepers]:
                 thread.join()
             self._show(progress)
             try:
