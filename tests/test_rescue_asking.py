@@ -1,8 +1,10 @@
 """luksrd-rescue decrypt: key files, and passphrases that are asked for at a terminal."""
+import inspect
 import os
 import shlex
 import signal
 
+import luksrd
 import pytest
 import volumes
 from kinds import VOLUME2
@@ -139,3 +141,19 @@ def memory_of(process):
             except OSError:
                 continue
     return b"".join(found)
+
+
+@pytest.mark.parametrize("kdf, name", [("argon2i", "Argon2i"), ("argon2id", "Argon2id")])
+def test_argon2(rescue, disk2, kinds, kdf, name):
+    """Its cost is said while the key is derived. A library that does not derive by Argon2 leaves the slot out."""
+    volumes.cryptsetup(f"luksConvertKey --key-slot 0 --pbkdf {kdf} --pbkdf-memory 65536 --pbkdf-parallel 1 "
+                       "--pbkdf-force-iterations 4 --key-file pass", disk2, cwd=rescue.folder)
+    ended = rescue("decrypt", disk2, "--key-file", "pass", "-o", "plain")
+    if "argon2_memory" in inspect.signature(luksrd.open).parameters:
+        says(ended, f"trying key slot 0 ({name}, 64 MiB", status=0)
+        assert (rescue.folder / "plain").read_bytes() == kinds.text(VOLUME2)
+    else:
+        says(ended, "no key slot opens by this key file (not tried: 0)", status=2)
+        says(rescue("decrypt", disk2, "--key-file", "pass", "--key-slot", "0", "-o", "plain"), f"key slot 0 cannot be opened: this "
+             f"version of luksrd does not derive keys by {name}", status=1)
+    says(rescue("decrypt", disk2, "--key-file", "pass2", "--key-slot", "1", "-o", "plain2"), status=0)

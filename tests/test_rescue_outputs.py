@@ -127,7 +127,8 @@ def test_arguments_that_cannot_be(rescue, disk1, words, text):
 
 @pytest.mark.parametrize("image, text, status", [
     ("missing", "missing: cannot open: No such file or directory", 4), (".", "is a folder", 4), ("/dev/null", "is neither", 4),
-    ("pass", "no LUKS header", 4), ("empty", "no LUKS header", 4)])
+    ("pass", "no LUKS header", 4), ("empty", "no LUKS header", 4), ("-", "standard input cannot be an image", 4),
+    ("/dev/stdin", "is neither", 4)])
 def test_images_that_cannot_be(rescue, disk1, image, text, status):
     (rescue.folder / "empty").touch()
     says(rescue("decrypt", image, "--key-file", "pass", "-o", "plain"), text, status=status)

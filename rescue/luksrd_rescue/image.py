@@ -229,6 +229,9 @@ def _sector_of(descriptor: int) -> int:
 def open_image(path: str, image_map: Optional[str] = None) -> Image:
     """An image, for which a map of ddrescue may be named."""
     found = maps.load(image_map) if image_map is not None else None
+    if path == "-" and not os.path.exists(path):
+        raise Refusal(IMAGE, path, "standard input cannot be an image, which is read at offsets: save it "
+                      "to a file first")
     try:
         # (a blocking open would wait for the writer of a pipe)
         descriptor = os.open(path, os.O_RDONLY | os.O_NOCTTY | os.O_NONBLOCK | os.O_CLOEXEC)
