@@ -1,5 +1,5 @@
-"""luksrd-rescue as the tests run it: from the tree, over the built library and luksrd-audit, at a terminal or without one,
-and with bad sectors in an image."""
+"""luksrd-rescue as the tests run it: from the tree, over the built library and luksrd-audit, at a terminal or without
+one, and with bad sectors in an image."""
 import fcntl
 import os
 import pty
@@ -120,13 +120,14 @@ class Terminal:
 
 
 def make_failing_reads(path):
-    must("cc", "-O1", "-Wall", "-Wextra", "-Werror", "-shared", "-fPIC", "-o", path, TOP / "tests/failing_reads.c", "-ldl")
+    must("cc", "-O1", "-Wall", "-Wextra", "-Werror", "-shared", "-fPIC", "-o", path, TOP / "tests/failing_reads.c",
+         "-ldl")
 
 
 @pytest.fixture
 def bad_sectors(cached):
-    """bad_sectors(FILE, [(START, LENGTH), ..], NAME=VALUE) gives the environment in which these bytes of the file cannot be
-    read; tests/failing_reads.c has the names."""
+    """bad_sectors(FILE, [(START, LENGTH), ..], NAME=VALUE) gives the environment in which these bytes of the file
+    cannot be read; tests/failing_reads.c has the names."""
     library = cached("failing_reads.so", make_failing_reads)
 
     def variables(file, places, **further):

@@ -12,6 +12,8 @@ from rescuing import Terminal, says
 from support import wait_until
 from volumes import PASS, PASS2, WRONG
 
+QUICK2 = "--pbkdf pbkdf2 --pbkdf-force-iterations 1000"
+
 
 def test_key_file_that_is_wrong(rescue, disk2):
     for name, content in {"newline": PASS + b"\n", "wrong": WRONG, "empty": b""}.items():
@@ -64,7 +66,7 @@ def test_three_wrong_ones(rescue, disk2):
 def test_bytes_as_typed(rescue, disk2):
     odd = b" \xff\xc3\xbc\\ $(id) '\" "
     (rescue.folder / "odd").write_bytes(odd)
-    volumes.cryptsetup("luksAddKey --pbkdf pbkdf2 --pbkdf-force-iterations 1000 --key-file pass", disk2, "odd", cwd=rescue.folder)
+    volumes.cryptsetup(f"luksAddKey {QUICK2} --key-file pass", disk2, "odd", cwd=rescue.folder)
     with Terminal(rescue, "decrypt", "disk.img", "-o", "plain") as terminal:
         terminal.asked().type(odd + b"\n")
         assert terminal.ended() == 0, terminal.shown
@@ -106,7 +108,7 @@ def test_passphrase_is_overwritten(rescue, disk2, tmp_path):
     os.mkfifo(tmp_path / "fifo")
     secret = b"long passphrase that is nowhere else"
     (tmp_path / "key").write_bytes(secret)
-    volumes.cryptsetup("luksAddKey --pbkdf pbkdf2 --pbkdf-force-iterations 1000 --key-file pass", disk2, "key", cwd=tmp_path)
+    volumes.cryptsetup(f"luksAddKey {QUICK2} --key-file pass", disk2, "key", cwd=tmp_path)
     reading = os.open(tmp_path / "fifo", os.O_RDONLY | os.O_NONBLOCK)
     writing = os.open(tmp_path / "fifo", os.O_WRONLY)
     with Terminal(rescue, "decrypt", "disk.img", "-o", "-", stdout=writing) as terminal:
@@ -129,7 +131,8 @@ def has_something(descriptor):
 def memory_of(process):
     """What is in the memory of a process."""
     found = []
-    with open(f"/proc/{process}/maps", encoding="utf-8") as maps, open(f"/proc/{process}/mem", "rb", buffering=0) as memory:
+    folder = f"/proc/{process}"
+    with open(f"{folder}/maps", encoding="utf-8") as maps, open(f"{folder}/mem", "rb", buffering=0) as memory:
         for line in maps:
             words = line.split()
             start, end = (int(word, 16) for word in words[0].split("-"))
@@ -154,6 +157,6 @@ def test_argon2(rescue, disk2, kinds, kdf, name):
         assert (rescue.folder / "plain").read_bytes() == kinds.text(VOLUME2)
     else:
         says(ended, "no key slot opens by this key file (not tried: 0)", status=2)
-        says(rescue("decrypt", disk2, "--key-file", "pass", "--key-slot", "0", "-o", "plain"), f"key slot 0 cannot be opened: this "
-             f"version of luksrd does not derive keys by {name}", status=1)
+        says(rescue("decrypt", disk2, "--key-file", "pass", "--key-slot", "0", "-o", "plain"),
+             f"key slot 0 cannot be opened: this version of luksrd does not derive keys by {name}", status=1)
     says(rescue("decrypt", disk2, "--key-file", "pass2", "--key-slot", "1", "-o", "plain2"), status=0)

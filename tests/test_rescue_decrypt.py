@@ -1,5 +1,5 @@
-"""luksrd-rescue decrypt: the plaintext of volumes of all kinds, whole and in part, by passphrase and by volume key; partitions
-and logical volumes. What is expected is what was encrypted, or what luksCat writes."""
+"""luksrd-rescue decrypt: the plaintext of volumes of all kinds, whole and in part, by passphrase and by volume key;
+partitions and logical volumes. What is expected is what was encrypted, or what luksCat writes."""
 import os
 import random
 
@@ -28,8 +28,8 @@ def test_ranges(rescue, kinds, kind):
     for number in range(4):
         start = chance.randrange(len(wanted) + 1)
         length = chance.choice((0, 1, 511, 512, 4097, len(wanted))) % (len(wanted) - start + 1)
-        ended = rescue("decrypt", kinds / kind.image, "--key-file", kinds / kind.key, *header, "--quiet", "-o", f"part{number}",
-                       "--range", f"{start}:{length}")
+        ended = rescue("decrypt", kinds / kind.image, "--key-file", kinds / kind.key, *header, "--quiet", "--range",
+                       f"{start}:{length}", "-o", f"part{number}")
         assert ended.status in (0, 4), ended
         assert shown((rescue.folder / f"part{number}").read_bytes()) == shown(wanted[start:start + length])
 
@@ -79,7 +79,8 @@ def test_key_slots_in_order(rescue, disk2):
     volumes.cryptsetup("config --priority ignore --key-slot 0", disk2)
     says(rescue("decrypt", disk2, "--key-file", "pass", "-o", "plain2"), "(not tried: 0)", status=2)
     says(rescue("decrypt", disk2, "--key-file", "pass", "--key-slot", "0", "-o", "plain2"), status=0)
-    says(rescue("decrypt", disk2, "--key-file", "pass", "--key-slot", "7", "-o", "x"), "key slot 7 is not in use", status=1)
+    says(rescue("decrypt", disk2, "--key-file", "pass", "--key-slot", "7", "-o", "x"), "key slot 7 is not in use",
+         status=1)
 
 
 def test_partition(rescue, kinds, tmp_path):
@@ -166,7 +167,8 @@ lvcreate -q -an -Zn -Wn -n striped -l 2 vg0 -i 2"""
 
 @pytest.fixture
 def physical(loop, cached):
-    """A volume of LUKS2 with a physical volume of LVM2, its plaintext, and where the pieces of `root` are in that, by lvs."""
+    """A volume of LUKS2 with a physical volume of LVM2, its plaintext, and where in that the pieces of
+    `root` are, by lvs."""
     def make(folder):
         folder.mkdir()
         for name in "first", "second":
@@ -174,8 +176,8 @@ def physical(loop, cached):
         devices = [loop(folder / name) for name in ("first", "second")]
         config = (f'devices {{ filter = ["a|^{devices[0]}$|", "a|^{devices[1]}$|", "r|.*|"] use_devicesfile = 0 '
                   'data_alignment_detection = 0 default_data_alignment = 0 } '
-                  f'global {{ use_lvmpolld = 0 locking_dir = "{folder}" }} activation {{ udev_sync = 0 udev_rules = 0 }} '
-                  'backup { backup = 0 archive = 0 }')
+                  f'global {{ use_lvmpolld = 0 locking_dir = "{folder}" }} '
+                  'activation { udev_sync = 0 udev_rules = 0 } backup { backup = 0 archive = 0 }')
 
         def lvm(line):
             command, *words = line.replace("FIRST", devices[0]).replace("SECOND", devices[1]).split()
@@ -189,7 +191,8 @@ def physical(loop, cached):
         assert len(extents) == 2
         must("sync")
         (folder / "starts").write_text(" ".join(str(start + (extent << 20)) for extent in extents))
-        volumes.luks2(folder / "disk.img", (folder / "first").read_bytes(), "aes-xts-plain64", 512, "--sector-size", "4096")
+        volumes.luks2(folder / "disk.img", (folder / "first").read_bytes(), "aes-xts-plain64", 512, "--sector-size",
+                      "4096")
 
     return cached("physical volumes", make)
 

@@ -1,6 +1,6 @@
 """luksrd-rescue decrypt past what is damaged: bad sectors in payload, headers and key areas, by reads that fail
-(tests/failing_reads.c) and by maps of ddrescue; images that end early; writes that fail. What is expected is the plaintext with
-zeros for the sectors that were injected."""
+(tests/failing_reads.c) and by maps of ddrescue; images that end early; writes that fail. What is expected is the
+plaintext with zeros for the sectors that were injected."""
 import os
 import random
 import re
@@ -14,6 +14,7 @@ from support import must, namespace, needs, shown
 from volumes import copy_of, metadata
 
 pytestmark = needs("cc")
+DECRYPT = ["decrypt", "disk.img", "--key-file", "pass"]
 
 
 @pytest.fixture
@@ -62,9 +63,10 @@ PLACES = {
 def test_bad_sectors(rescue, volume, kinds, bad_sectors, name, sector, places, unit, whole):
     image, plain = volume(name), kinds.text(name)
     env = bad_sectors(image, places, unit=unit, **({"whole": 1} if whole else {}))
-    ended = rescue("decrypt", "disk.img", "--key-file", "pass", "-o", "plain", "--map", "map", env=env)
+    ended = rescue(*DECRYPT, "-o", "plain", "--map", "map", env=env)
     # (what is read past the page cache is lost by sectors of 512)
-    by_sectors = [(start // 512 * 512, -(-(start + length) // 512) * 512 - start // 512 * 512) for start, length in places]
+    by_sectors = [(start // 512 * 512, -(-(start + length) // 512) * 512 - start // 512 * 512)
+                  for start, length in places]
     lost = lost_by(by_sectors, START, sector, len(plain))
     says(ended, status=6)
     assert shown((rescue.folder / "plain").read_bytes()) == shown(with_zeros(plain, lost))
@@ -82,7 +84,7 @@ def sized(count):
 def test_ddrescuelog_reads_the_map(rescue, volume, kinds, bad_sectors):
     image, size = volume("luks2 xts-plain64 512 512"), len(kinds.text(VOLUME2))
     places = PLACES["neighbours and others"]
-    says(rescue("decrypt", "disk.img", "--key-file", "pass", "-o", "plain", env=bad_sectors(image, places)), status=6)
+    says(rescue(*DECRYPT, "-o", "plain", env=bad_sectors(image, places)), status=6)
     path = rescue.folder / "plain.map"
     must("ddrescuelog", "--show-status", path)
     lost = lost_by([(it // 512 * 512, 512 * (1 + (length - 1) // 512)) for it, length in places], START, 512, size)
@@ -101,7 +103,7 @@ def test_ranges_past_bad_sectors(rescue, volume, kinds, bad_sectors):
     image, plain = volume(VOLUME2), kinds.text(VOLUME2)
     env = bad_sectors(image, [(START + 8192 + 512, 512)])
     for first, length in (8000, 1000), (9000, 8000), (8192, 4096), (12287, 1), (12288, 100), (8191, 1):
-        ended = rescue("decrypt", "disk.img", "--key-file", "pass", "-o", "part", "--force", "--range", f"{first}:{length}", env=env)
+        ended = rescue(*DECRYPT, "-o", "part", "--force", "--range", f"{first}:{length}", env=env)
         wanted = with_zeros(plain, [(8192, 4096)])[first:first + length]
         assert (rescue.folder / "part").read_bytes() == wanted
         assert ended.status == (6 if first < 12288 and first + length > 8192 else 0), ended
@@ -109,7 +111,7 @@ def test_ranges_past_bad_sectors(rescue, volume, kinds, bad_sectors):
 
 def test_pipe_past_bad_sectors(rescue, volume, kinds, bad_sectors):
     image, plain = volume(VOLUME1), kinds.text(VOLUME1)
-    ended = rescue("decrypt", "disk.img", "--key-file", "pass", "-o", "-", "--map", "map", env=bad_sectors(image, [(START + 1024, 512)]))
+    ended = rescue(*DECRYPT, "-o", "-", "--map", "map", env=bad_sectors(image, [(START + 1024, 512)]))
     says(ended, status=6)
     assert ended.output == with_zeros(plain, [(1024, 512)])
     assert lost_in_map(rescue.folder / "map") == [(1024, 512)]
@@ -119,7 +121,7 @@ def test_retry(rescue, volume, kinds, bad_sectors):
     """What can be read by now is filled in, until nothing is missing."""
     image, plain = volume(VOLUME1), kinds.text(VOLUME1)
     places = [(START + 512 * number, 512) for number in (3, 4, 100, 585)]
-    command = ["decrypt", "disk.img", "--key-file", "pass", "-o", "plain"]
+    command = [*DECRYPT, "-o", "plain"]
     says(rescue(*command, env=bad_sectors(image, places)), "--retry plain.map", status=6)
     for left in places[1:], places[2:], []:
         ended = rescue(*command, "--retry", "plain.map", env=bad_sectors(image, left))
@@ -145,18 +147,19 @@ def test_map_of_the_image(rescue, volume, kinds, lines, lost):
     (rescue.folder / "disk.map").write_text(lines.format(**numbers))
     if lost:
         volumes.overwrite(image, START, bytes(1024))
-    ended = rescue("decrypt", "disk.img", "--key-file", "pass", "-o", "plain", "--image-map", "disk.map")
+    ended = rescue(*DECRYPT, "-o", "plain", "--image-map", "disk.map")
     says(ended, status=6 if lost else 0)
     places = [(start, len(plain) if length == "end" else length) for start, length in lost]
     assert (rescue.folder / "plain").read_bytes() == with_zeros(plain, places)
 
 
-@pytest.mark.parametrize("text, line", [("", 0), ("nonsense\n", 1), ("0 + 1\n0 10\n", 2), ("0 + 1\n0 10 x\n", 2), ("0 + 1\n0 0 +\n", 2),
-                                        ("0 + 1\n0 10 +\n5 10 +\n", 3), ("# only\n", 1), ("0 + 1\n-5 10 +\n", 2), ("\0\xff", 1)])
+@pytest.mark.parametrize("text, line", [
+    ("", 0), ("nonsense\n", 1), ("0 + 1\n0 10\n", 2), ("0 + 1\n0 10 x\n", 2), ("0 + 1\n0 0 +\n", 2),
+    ("0 + 1\n0 10 +\n5 10 +\n", 3), ("# only\n", 1), ("0 + 1\n-5 10 +\n", 2), ("\0\xff", 1)])
 def test_no_map(rescue, volume, text, line):
     volume(VOLUME1)
     (rescue.folder / "disk.map").write_bytes(text.encode("latin-1"))
-    ended = rescue("decrypt", "disk.img", "--key-file", "pass", "-o", "plain", "--image-map", "disk.map")
+    ended = rescue(*DECRYPT, "-o", "plain", "--image-map", "disk.map")
     says(ended, f"disk.map: line {line} is not one of a map of ddrescue", status=4)
     says(rescue("decrypt", "disk.img", "-o", "plain", "--image-map", "none"), "none: cannot open the map", status=4)
 
@@ -183,7 +186,7 @@ def areas_of(image):
 def test_bad_sector_in_the_first_header(rescue, volume, kinds, bad_sectors, at, used):
     """The second header is used, unless the sector has nothing but the zeros after the JSON text."""
     image = volume(VOLUME2)
-    ended = rescue("decrypt", "disk.img", "--key-file", "pass", "-o", "plain", env=bad_sectors(image, [(at, 512)]))
+    ended = rescue(*DECRYPT, "-o", "plain", env=bad_sectors(image, [(at, 512)]))
     says(ended, f"sectors of the header cannot be read; the {used} header is used", status=0)
     assert (rescue.folder / "plain").read_bytes() == kinds.text(VOLUME2)
 
@@ -204,15 +207,15 @@ def test_bad_sector_in_a_key_area(rescue, volume, kinds, bad_sectors):
     says(ended, "key slot 0 is left out: its key area has sectors that cannot be read", status=0)
     assert "trying key slot 0" not in ended.message
     assert (rescue.folder / "plain").read_bytes() == kinds.text(VOLUME2)
-    says(rescue("decrypt", "disk.img", "--key-file", "pass", "-o", "other", env=env), "(not tried: 0)", status=2)
-    says(rescue("decrypt", "disk.img", "--key-file", "pass", "--key-slot", "0", "-o", "other", env=env),
+    says(rescue(*DECRYPT, "-o", "other", env=env), "(not tried: 0)", status=2)
+    says(rescue(*DECRYPT, "--key-slot", "0", "-o", "other", env=env),
          "no key slot can be read", status=6)
 
 
 def test_bad_sectors_in_all_key_areas(rescue, volume, bad_sectors):
     image = volume(VOLUME2)
     env = bad_sectors(image, [(start, 512) for start, _ in areas_of(image).values()])
-    says(rescue("decrypt", "disk.img", "--key-file", "pass", "-o", "plain", env=env), "no key slot can be read", "--header", status=6)
+    says(rescue(*DECRYPT, "-o", "plain", env=env), "no key slot can be read", "--header", status=6)
 
 
 def test_bad_sector_after_the_key_material(rescue, volume, kinds, bad_sectors):
@@ -221,7 +224,7 @@ def test_bad_sector_after_the_key_material(rescue, volume, kinds, bad_sectors):
     start, length = areas_of(image)[0]
     material = 64 * 4000
     env = bad_sectors(image, [(start + material, length - material)])
-    ended = rescue("decrypt", "disk.img", "--key-file", "pass", "-o", "plain", env=env)
+    ended = rescue(*DECRYPT, "-o", "plain", env=env)
     says(ended, status=0)
     assert "left out" not in ended.message
 
@@ -229,11 +232,13 @@ def test_bad_sector_after_the_key_material(rescue, volume, kinds, bad_sectors):
 def test_bad_sectors_of_luks1(rescue, volume, kinds, bad_sectors):
     """The first sector has what all slots need. The second one has slot 7 and a part of slot 6."""
     image = volume(VOLUME1)
-    volumes.cryptsetup("luksAddKey --key-file pass --pbkdf-force-iterations 1000 --key-slot 7", image, "wrong", cwd=rescue.folder)
-    says(rescue("decrypt", "disk.img", "--offset", "0", "--key-file", "pass", "-o", "x", env=bad_sectors(image, [(0, 512)])),
+    volumes.cryptsetup("luksAddKey --key-file pass --pbkdf-force-iterations 1000 --key-slot 7", image, "wrong",
+                       cwd=rescue.folder)
+    says(rescue(*DECRYPT, "--offset", "0", "-o", "x", env=bad_sectors(image, [(0, 512)])),
          "the header cannot be read", status=6)
     env = bad_sectors(image, [(512, 512)])
-    says(rescue("decrypt", "disk.img", "--key-file", "wrong", "-o", "x", env=env), "sectors of the header cannot be read", status=2)
+    says(rescue("decrypt", "disk.img", "--key-file", "wrong", "-o", "x", env=env),
+         "sectors of the header cannot be read", status=2)
     for number, areas in enumerate(([], [(4096, 512)])):
         ended = rescue("decrypt", "disk.img", "--key-file", "pass2", "-o", f"plain{number}",
                        env=bad_sectors(image, [(512, 512), *areas]))
@@ -258,7 +263,7 @@ def test_bad_sectors_and_an_early_end(rescue, volume, kinds, bad_sectors):
     """Status 6 if both are missing."""
     image, plain = volume(VOLUME1), kinds.text(VOLUME1)
     os.truncate(image, START + 100000)
-    ended = rescue("decrypt", "disk.img", "--key-file", "pass", "-o", "plain", env=bad_sectors(image, [(START + 512, 512)]))
+    ended = rescue(*DECRYPT, "-o", "plain", env=bad_sectors(image, [(START + 512, 512)]))
     says(ended, "image ends inside a sector: 160 bytes left over", "512 bytes at", status=6)
     assert (rescue.folder / "plain").read_bytes() == with_zeros(plain[:99840], [(512, 512)])
 
@@ -270,7 +275,7 @@ def test_gap_in_memory_is_not_decrypted_noise(rescue, made2, bad_sectors, tmp_pa
     image = copy_of(made2("aes-xts-plain64", 512, "--sector-size", "4096", plain=plain), tmp_path / "disk.img")
     start = volumes.payload_start(image)
     places = [(start + (number << 20) - 512, 1024) for number in range(1, 8)]
-    ended = rescue("decrypt", "disk.img", "--key-file", "pass", "-o", "plain", "--range", f"0:{len(plain)}", env=bad_sectors(image, places))
+    ended = rescue(*DECRYPT, "-o", "plain", "--range", f"0:{len(plain)}", env=bad_sectors(image, places))
     lost = lost_by(places, start, 4096, len(plain))
     assert (ended.status, shown((tmp_path / "plain").read_bytes())) == (6, shown(with_zeros(plain, lost)))
     assert lost_in_map(tmp_path / "plain.map") == lost
@@ -281,7 +286,7 @@ def test_gap_in_memory_is_not_decrypted_noise(rescue, made2, bad_sectors, tmp_pa
 def test_write_that_fails(rescue, volume, kinds, bad_sectors):
     """The system's reason; output and map stay, and --resume goes on."""
     image, plain = volume(VOLUME2), kinds.text(VOLUME2)
-    command = ["decrypt", "disk.img", "--key-file", "pass", "-o", "plain"]
+    command = [*DECRYPT, "-o", "plain"]
     ended = rescue(*command, env=bad_sectors(image, [], writes=100000))
     says(ended, "plain: write failed: No space left on device", "--resume goes on", status=6)
     assert (rescue.folder / "plain").exists() and (rescue.folder / "plain.map").exists()
@@ -293,7 +298,7 @@ def test_write_that_fails(rescue, volume, kinds, bad_sectors):
 def test_file_that_may_not_be_so_long(rescue, volume):
     import resource
     volume(VOLUME2)
-    ended = rescue("decrypt", "disk.img", "--key-file", "pass", "-o", "plain",
+    ended = rescue(*DECRYPT, "-o", "plain",
                    preexec_fn=lambda: resource.setrlimit(resource.RLIMIT_FSIZE, (4096, 4096)))
     says(ended, "File too large", status=6)
 
@@ -305,7 +310,7 @@ def test_full_disk(rescue, made2, tmp_path):
     plain = random.Random("full").randbytes(24 << 20)
     copy_of(made2("aes-xts-plain64", 512, "--sector-size", "4096", plain=plain), tmp_path / "disk.img")
     (tmp_path / "out").mkdir()
-    command = [*rescue.command("decrypt", "disk.img", "--key-file", "pass", "-o", "out/plain", "--range", f"0:{len(plain)}")]
+    command = [*rescue.command(*DECRYPT, "-o", "out/plain", "--range", f"0:{len(plain)}")]
     script = ('mount -t tmpfs -o size=10m none out; "$@"; echo first $?; ls out; mount -o remount,size=64m out; '
               '"$@" --resume; echo second $?; ls out; cp out/plain plain')
     ended = subprocess.run([*namespace(), "sh", "-c", script, "sh", *command], cwd=tmp_path, env=rescue.variables,

@@ -26,7 +26,8 @@ def test_file_is_private_and_new(rescue, disk1, kinds):
     assert plain.read_bytes() == kinds.text(VOLUME1) and stat.S_IMODE(plain.stat().st_mode) == 0o600
 
 
-@pytest.mark.parametrize("how", ["itself", "link", "symbolic link", "header", "key file", "image map", "standard output", "map"])
+@pytest.mark.parametrize("how", ["itself", "link", "symbolic link", "header", "key file", "image map",
+                                 "standard output", "map"])
 def test_output_is_an_input(rescue, disk2, how):
     folder = rescue.folder
     words = {"itself": "disk.img", "link": "link", "symbolic link": "symlink", "header": "header", "key file": "pass",
@@ -38,8 +39,8 @@ def test_output_is_an_input(rescue, disk2, how):
     before = {name: (folder / name).read_bytes() for name in ("disk.img", "header", "pass", "disk.map")}
     more = ["--map", "disk.img"] if how == "map" else []
     with open(disk2, "ab") as appended:
-        ended = rescue("decrypt", "disk.img", "--key-file", "pass", "--header", "header", "--image-map", "disk.map", "--force",
-                       "-o", words, *more, **({"stdout": appended} if how == "standard output" else {}))
+        ended = rescue("decrypt", "disk.img", "--key-file", "pass", "--header", "header", "--image-map", "disk.map",
+                       "--force", "-o", words, *more, **({"stdout": appended} if how == "standard output" else {}))
     says(ended, status=1)
     assert {name: (folder / name).read_bytes() for name in before} == before
 
@@ -74,7 +75,8 @@ def test_closed_streams(rescue, disk2):
     """No file gets the number of standard output, and so no message."""
     ended = rescue("decrypt", disk2, "--key-file", "pass", "-o", "-", "--quiet", preexec_fn=lambda: os.close(1))
     says(ended, "write failed", status=6)
-    ended = rescue("decrypt", disk2, "--key-file", "pass", "-o", "plain", preexec_fn=lambda: [os.close(it) for it in (0, 1, 2)])
+    ended = rescue("decrypt", disk2, "--key-file", "pass", "-o", "plain",
+                   preexec_fn=lambda: [os.close(it) for it in (0, 1, 2)])
     assert b"luksrd-rescue" not in (rescue.folder / "plain").read_bytes()
 
 
@@ -96,9 +98,9 @@ def test_devices(rescue, disk2, kinds, loop, tmp_path):
     assert (tmp_path / "target").read_bytes() == content + b"x" * 4096
 
 
-@pytest.mark.parametrize("word, value", [("0", 0), ("512", 512), ("2s", 1024), ("1k", 1000), ("1kB", 1000), ("1Ki", 1024),
-                                         ("1KiB", 1024), ("1M", 10 ** 6), ("1Mi", 1 << 20), ("0x10", 16), ("010", 8), ("2G", 2 * 10 ** 9),
-                                         ("1Ti", 1 << 40)])
+@pytest.mark.parametrize("word, value", [
+    ("0", 0), ("512", 512), ("2s", 1024), ("1k", 1000), ("1kB", 1000), ("1Ki", 1024), ("1KiB", 1024), ("1M", 10 ** 6),
+    ("1Mi", 1 << 20), ("0x10", 16), ("010", 8), ("2G", 2 * 10 ** 9), ("1Ti", 1 << 40)])
 def test_numbers(word, value):
     """ddrescue's suffixes."""
     import sys
@@ -115,7 +117,8 @@ def test_no_numbers(rescue, disk1, word):
 
 @pytest.mark.parametrize("words, text", [
     ([], "usage"), (["nonsense"], "usage"), (["decrypt"], "usage"), (["decrypt", "disk.img"], "usage"),
-    (["decrypt", "disk.img", "-o", "x", "--key-slot", "32"], "--key-slot"), (["decrypt", "disk.img", "-o", "x", "--range", "1"], "--range"),
+    (["decrypt", "disk.img", "-o", "x", "--key-slot", "32"], "--key-slot"),
+    (["decrypt", "disk.img", "-o", "x", "--range", "1"], "--range"),
     (["decrypt", "disk.img", "-o", "x", "--cipher", "rot13"], "--cipher"),
     (["decrypt", "disk.img", "-o", "x", "--payload-offset", "1"], "goes with --volume-key-file"),
     (["decrypt", "disk.img", "-o", "x", "--key-file", "a", "--volume-key-file", "b"], "not allowed with"),
@@ -126,7 +129,8 @@ def test_arguments_that_cannot_be(rescue, disk1, words, text):
 
 
 @pytest.mark.parametrize("image, text, status", [
-    ("missing", "missing: cannot open: No such file or directory", 4), (".", "is a folder", 4), ("/dev/null", "is neither", 4),
+    ("missing", "missing: cannot open: No such file or directory", 4), (".", "is a folder", 4),
+    ("/dev/null", "is neither", 4),
     ("pass", "no LUKS header", 4), ("empty", "no LUKS header", 4), ("-", "standard input cannot be an image", 4),
     ("/dev/stdin", "is neither", 4)])
 def test_images_that_cannot_be(rescue, disk1, image, text, status):

@@ -1,5 +1,5 @@
-"""luksrd-rescue decrypt, interrupted and gone on with: killed at random moments, by Ctrl-C, by a full disk. strace shows that data
-is on the disk before the map says so, and how much is read again."""
+"""luksrd-rescue decrypt, interrupted and gone on with: killed at random moments, by Ctrl-C, by a full disk. strace
+shows that data is on the disk before the map says so, and how much is read again."""
 import os
 import random
 import re
@@ -21,8 +21,8 @@ def make_large(path):
     volumes.passphrases(path.parent)
     with open(path, "wb") as file:
         file.truncate((2 << 20) + LENGTH)
-    volumes.cryptsetup("luksFormat --type luks1 --key-file pass --pbkdf-force-iterations 1000 --cipher aes-xts-plain64 --key-size 256",
-                       path, cwd=path.parent)
+    volumes.cryptsetup("luksFormat --type luks1 --key-file pass --pbkdf-force-iterations 1000 "
+                       "--cipher aes-xts-plain64 --key-size 256", path, cwd=path.parent)
     assert volumes.payload_start(path) == 2 << 20
     chance = random.Random("large")
     with open(path, "r+b") as file:
@@ -72,7 +72,8 @@ def test_killed(rescue, large, plain, number):
     """What the map calls done is right at each moment, and --resume gives the same bytes."""
     out, chance = rescue.folder / "plain", random.Random(number)
     for again in range(8):
-        run = rescue.start(*COMMAND, "--quiet", *(["--resume"] if again else []), stdout=subprocess.DEVNULL, stderr=subprocess.DEVNULL)
+        run = rescue.start(*COMMAND, "--quiet", *(["--resume"] if again else []), stdout=subprocess.DEVNULL,
+                           stderr=subprocess.DEVNULL)
         time.sleep(chance.uniform(0.1, 1.5))
         run.kill()
         if run.wait() == 0:
@@ -134,8 +135,8 @@ def payload_reads(trace, volume):
 
 @needs("strace")
 def test_order_of_the_disk_and_of_the_map(rescue, large, plain):
-    """Reads and writes go forwards; the map is renamed only after the data that it calls done was synced; at most 64 MiB were
-    read that the map does not have."""
+    """Reads and writes go forwards; the map is renamed only after the data that it calls done was synced; at most
+    64 MiB were read that the map does not have."""
     trace = ["strace", "-f", "-y", "-qq", "-o", "trace", "-e",
              "trace=preadv,preadv2,pwrite64,fdatasync,fsync,rename,renameat,renameat2"]
     says(rescue(*COMMAND, "--quiet", before=trace), status=0)
@@ -183,7 +184,8 @@ def test_interrupted(rescue, large, plain):
     run.send_signal(signal.SIGINT)
     _, message = run.communicate()
     assert run.returncode == 130
-    assert re.fullmatch(r"luksrd-rescue: interrupted: [^\n]* are done; --resume goes on by plain\.map\n", message.decode())
+    wanted = r"luksrd-rescue: interrupted: [^\n]* are done; --resume goes on by plain\.map\n"
+    assert re.fullmatch(wanted, message.decode())
     says(rescue(*COMMAND, "--resume"), status=0)
     assert same(rescue.folder / "plain", plain)
 
@@ -276,7 +278,8 @@ def test_old_bytes_are_overwritten(rescue, tmp_path):
     command = [*COMMAND, "--range", f"0:{2 << 20}"]
     says(rescue(*command, "--map", "map"), status=0)
     text = (tmp_path / "map").read_text()
-    (tmp_path / "map").write_text(re.sub(r"^0x0+  0x0*200000  \+$", "0x0 0x80000 +\n0x80000 0x180000 ?", text, flags=re.MULTILINE))
+    (tmp_path / "map").write_text(re.sub(r"^0x0+  0x0*200000  \+$", "0x0 0x80000 +\n0x80000 0x180000 ?", text,
+                                         flags=re.MULTILINE))
     volumes.overwrite(tmp_path / "plain", 1 << 20, b"x" * (1 << 20))
     says(rescue(*command, "--map", "map", "--resume"), status=0)
     assert (tmp_path / "plain").read_bytes() == content

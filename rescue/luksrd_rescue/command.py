@@ -30,7 +30,8 @@ statuses:
 """
 
 # ddrescue's suffixes; `s` is a sector of 512 bytes
-_NUMBER = re.compile(r"(0[xX][0-9a-fA-F]+|0[0-7]*|[1-9][0-9]*)(?:([kMGTPEZY]|[KMGTPEZY]i)B?|([sB]))?")
+_NUMBER = re.compile(
+    r"(0[xX][0-9a-fA-F]+|0[0-7]*|[1-9][0-9]*)(?:([kMGTPEZY]|[KMGTPEZY]i)B?|([sB]))?")
 
 
 class Refusal(Exception):
@@ -89,7 +90,7 @@ def sized(count: int) -> str:
 
 
 class _Parser(argparse.ArgumentParser):
-    """A parser whose complaints are messages of luksrd-rescue, with the status of luksrd's usage."""
+    """A parser whose complaints are messages of luksrd-rescue, with its status for usage."""
 
     def __init__(self, *arguments: object, **how: object) -> None:
         how.setdefault("allow_abbrev", False)
@@ -109,7 +110,7 @@ _COMMANDS = {"look": "look", "decrypt": "decrypt", "try": "trying", "serve": "se
 def _parser(words: Sequence[str]) -> argparse.ArgumentParser:
     parser = _Parser(
         prog=PROGRAM, epilog=EXAMPLES,
-        description="Find LUKS volumes in the image of a disk, and bring their plaintext to safety.")
+        description="Find LUKS volumes in images of disks, and bring their plaintext to safety.")
     parser.add_argument("--version", action="version", version=f"{PROGRAM} {__version__}")
     subparsers = parser.add_subparsers(metavar="COMMAND", required=True)
     # (the others would only have to be loaded)

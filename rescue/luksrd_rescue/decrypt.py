@@ -52,9 +52,10 @@ def register(subparsers: argparse._SubParsersAction) -> None:
     parser = subparsers.add_parser(
         "decrypt", help="write the plaintext of a volume into a file", epilog=EXAMPLES,
         usage="luksrd-rescue decrypt IMAGE -o FILE [OPTION ..]",
-        description="Decrypt a LUKS volume in an image or a device, past bad sectors. FILE is made when\n"
-        "a key has opened the volume; until all is done, FILE.map notes what is.")
-    parser.add_argument("image", metavar="IMAGE", help="a file or a device: a whole disk or a volume")
+        description="Decrypt a LUKS volume in an image or a device, past bad sectors. FILE is\n"
+        "made when a key has opened the volume; until all is done, FILE.map notes what is.")
+    parser.add_argument("image", metavar="IMAGE",
+                        help="a file or a device: a whole disk or a volume")
     parser.add_argument("-o", "--output", metavar="FILE", required=True,
                         help="a new file; - is standard output; a device needs --force")
     choosing.add_options(parser)
@@ -68,7 +69,8 @@ def _add_part_options(parser: argparse.ArgumentParser) -> None:
     group = parser.add_argument_group("which part (without these all of the plaintext)")
     group.add_argument("--lv", metavar="NAME", help="one logical volume of LVM, as VG/LV or LV")
     group.add_argument("--range", metavar="OFFSET:LENGTH", type=_range,
-                       help="so many bytes from this one on, of the plaintext or of the logical volume")
+                       help="so many bytes from this one on, of the plaintext or of the logical "
+                       "volume")
 
 
 def _add_running_options(parser: argparse.ArgumentParser) -> None:
@@ -76,12 +78,14 @@ def _add_running_options(parser: argparse.ArgumentParser) -> None:
     group.add_argument("--image-map", metavar="MAP",
                        help="ddrescue's map of IMAGE: what it has not finished is lost")
     group.add_argument("--map", metavar="MAP",
-                       help="note here, as ddrescue does, what is done and what is lost; without it "
-                       "in FILE.map, which is deleted if nothing is lost")
+                       help="note here, as ddrescue does, what is done and what is lost; without "
+                       "it in FILE.map, which is deleted if nothing is lost")
     again = group.add_mutually_exclusive_group()
     again.add_argument("--resume", action="store_true", help="go on where the map says")
-    again.add_argument("--retry", metavar="MAP", help="go on by this map, and try what is lost again")
-    group.add_argument("--force", action="store_true", help="overwrite an existing FILE or a device")
+    again.add_argument("--retry", metavar="MAP",
+                       help="go on by this map, and try what is lost again")
+    group.add_argument("--force", action="store_true",
+                       help="overwrite an existing FILE or a device")
     group.add_argument("--quiet", action="store_true", help="show no progress")
 
 
@@ -100,7 +104,8 @@ def run(arguments: argparse.Namespace) -> int:
         unlocked = unlocking.unlock(image, volume, arguments, loaded)
         terminal.wipe(unlocked.passphrase)
         with unlocked.volume:
-            payload = working.Payload(unlocked.volume, image, loaded, volume.offset + unlocked.payload)
+            payload = working.Payload(unlocked.volume, image, loaded,
+                                      volume.offset + unlocked.payload)
             begun = _begin(arguments, volume, payload, target, map_path)
             output = target.open(begun.length, kept, begun.is_new)
             if map_path is not None:
@@ -120,7 +125,8 @@ def _save_first(begun: _Begun, target: Target) -> None:
 def _kept(arguments: argparse.Namespace, image: Image) -> list[Kept]:
     """The files that are read, to which nothing may be written."""
     kept = [Kept(arguments.image, image.identity)]
-    for path in (arguments.header, arguments.key_file, arguments.volume_key_file, arguments.image_map):
+    for path in (arguments.header, arguments.key_file, arguments.volume_key_file,
+                 arguments.image_map):
         with contextlib.suppress(OSError, ValueError):
             kept += [Kept(path, os.stat(path))] if path not in (None, "-") else []
     return kept
@@ -158,8 +164,8 @@ def _logical_volume(arguments: argparse.Namespace, volume: object) -> list[tuple
     except luksrd_lvm.Refused as error:
         raise Refusal(USAGE, arguments.image, str(error.args[0])) from error
     except OSError as error:
-        raise Refusal(FAILED, arguments.image, "LVM's metadata, in the first bytes of the plaintext, "
-                      f"cannot be read: {error.strerror}") from error
+        raise Refusal(FAILED, arguments.image, "LVM's metadata, in the first bytes of the "
+                      f"plaintext, cannot be read: {error.strerror}") from error
 
 
 def _cut(pieces: list[tuple[int, int]], offset: int, length: int) -> list[tuple[int, int]]:
@@ -223,13 +229,13 @@ def _report(arguments: argparse.Namespace, volume: choosing.Volume, begun: _Begu
     """Says what is missing and what the plaintext is, and gives the status."""
     image, bad = arguments.image, begun.done.count(maps.BAD)
     for gap in work.gaps:
-        say(image, f"{gap.length} bytes at {begun.payload.start + gap.plain} cannot be read: zeros at "
-            f"{gap.plain} of the plaintext")
+        say(image, f"{gap.length} bytes at {begun.payload.start + gap.plain} cannot be read: zeros "
+            f"at {gap.plain} of the plaintext")
     missing = _missing(arguments, volume, begun)
     if missing:
         say(image, missing)
     if bad:
-        how = "" if begun.map_path is None else f"; --retry {shown(begun.map_path)} tries them again"
+        how = f"; --retry {shown(begun.map_path)} tries them again" if begun.map_path else ""
         say(arguments.output, f"{sized(bad)} of {sized(begun.length)} are missing{how}")
     if arguments.output != "-":
         _describe(arguments, begun)

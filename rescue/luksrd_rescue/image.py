@@ -138,7 +138,7 @@ class Image:
             raise Refusal(FAILED, self.path, f"the disk is gone: {error.strerror}") from error
 
     def _try_directly(self, view: memoryview, offset: int) -> bool:
-        """Reads a sector, or a part of one, past the page cache, which loses a whole page with it."""
+        """Reads a sector, or a part of one, past the page cache, which loses its whole page."""
         unit = self.sector
         first = offset // unit * unit
         with mmap.mmap(-1, unit) as buffer, memoryview(buffer) as aligned:
@@ -179,7 +179,7 @@ class Patched:
         self.lost: list[Lost] = []
 
     def pread_into(self, view: memoryview, offset: int) -> int:
-        """Fills the view, or all of it that is before the end, and returns how many bytes that is."""
+        """Fills the view, or what of it is before the end, and returns how many bytes that is."""
         view = view[:max(0, min(len(view), self.size - offset))]
         self.lost += self._image.salvage(view, offset) if view else []
         return len(view)
@@ -230,8 +230,8 @@ def open_image(path: str, image_map: Optional[str] = None) -> Image:
     """An image, for which a map of ddrescue may be named."""
     found = maps.load(image_map) if image_map is not None else None
     if path == "-" and not os.path.exists(path):
-        raise Refusal(IMAGE, path, "standard input cannot be an image, which is read at offsets: save it "
-                      "to a file first")
+        raise Refusal(IMAGE, path, "standard input cannot be an image, which is read at offsets: "
+                      "save it to a file first")
     try:
         # (a blocking open would wait for the writer of a pipe)
         descriptor = os.open(path, os.O_RDONLY | os.O_NOCTTY | os.O_NONBLOCK | os.O_CLOEXEC)

@@ -1,5 +1,5 @@
-"""Which files and devices have bytes in common: partitions and their disk, loop devices and the files
-that they show, and what the device mapper puts on top of others."""
+"""Which files and devices have bytes in common: partitions and their disk, loop devices and the
+files that they show, and what the device mapper puts on top of others."""
 
 from __future__ import annotations
 
@@ -80,8 +80,8 @@ def are_related(one: os.stat_result, other: os.stat_result) -> bool:
 
 
 def is_inside(found: os.stat_result, image: os.stat_result) -> bool:
-    """Whether a file or a folder is on a file system whose bytes are in the image. (Another partition
-    of the same disk is not.)"""
+    """Whether a file or a folder is on a file system whose bytes are in the image. (Another
+    partition of the same disk is not.)"""
     is_on = stat.S_ISREG(found.st_mode) or stat.S_ISDIR(found.st_mode)
     return is_on and _thing(image) in _below(_device(found.st_dev), with_disk=False)
 

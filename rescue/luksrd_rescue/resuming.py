@@ -60,15 +60,16 @@ def check_map_path(path: Optional[str], target: Target, kept: list[Kept],
     except FileNotFoundError:
         return
     except (OSError, ValueError) as error:
-        raise Refusal(USAGE, path, f"cannot be the map: {getattr(error, 'strerror', error)}") from error
+        why = getattr(error, "strerror", error)
+        raise Refusal(USAGE, path, f"cannot be the map: {why}") from error
     if not stat.S_ISREG(found.st_mode):
         raise Refusal(USAGE, path, "cannot be the map: it is not a regular file")
     for it in [*kept, *([Kept(target.path, os.stat(target.path))] if target.is_there else [])]:
         if related.are_related(found, it.identity):
-            raise Refusal(USAGE, path, f"cannot be the map: it is {it.path}")
+            raise Refusal(USAGE, path, f"cannot be the map: it is {shown(it.path)}")
     if not arguments.resume and arguments.retry is None and not arguments.force:
-        raise Refusal(USAGE, path, "there is such a file, and the map would be written there: --resume "
-                      "goes on by it, --force overwrites it, and --map names another one")
+        raise Refusal(USAGE, path, "there is such a file, and the map would be written there: "
+                      "--resume goes on by it, --force overwrites it, and --map names another one")
 
 
 def earlier(path: str, identity: Identity, target: Target,
@@ -81,8 +82,9 @@ def earlier(path: str, identity: Identity, target: Target,
             raise Refusal(USAGE, source, "there is no such map")
         # (a file of this length is one that a run has left before it had a map, or without it)
         if target.is_there and target.length != length and not arguments.force:
-            raise Refusal(USAGE, target.path, f"there is such a file, but no map {shown(source)}, and it "
-                          f"has not the length of the plaintext, {length} bytes: --force overwrites it")
+            raise Refusal(USAGE, target.path, f"there is such a file, but no map {shown(source)}, "
+                          f"and it has not the length of the plaintext, {length} bytes: --force "
+                          "overwrites it")
         return None
     found = maps.load(source)
     difference = identity.differs_from(found.comments)
@@ -93,6 +95,7 @@ def earlier(path: str, identity: Identity, target: Target,
     if target.is_there:
         return found
     if arguments.retry is not None:
-        raise Refusal(USAGE, target.path, "there is no such file, in which what is lost could be filled in")
+        raise Refusal(USAGE, target.path,
+                      "there is no such file, in which what is lost could be filled in")
     # (the output is gone, and with it what the map says)
     return None

@@ -103,8 +103,8 @@ def ask(prompt: str) -> bytearray:
     try:
         descriptor = os.open("/dev/tty", os.O_RDWR | os.O_NOCTTY | os.O_CLOEXEC)
     except OSError as error:
-        raise Refusal(USAGE, "", "there is no terminal to ask for a passphrase at: name a file that "
-                      "has it by --key-file, or - for standard input") from error
+        raise Refusal(USAGE, "", "there is no terminal to ask for a passphrase at: name a file "
+                      "that has it by --key-file, or - for standard input") from error
     try:
         return _ask_until_typed(descriptor, prompt)
     finally:
@@ -135,8 +135,8 @@ def read_key_file(name: str) -> bytearray:
     """All bytes of a key file, which are the passphrase; `-` is standard input."""
     is_standard = name == "-"
     if is_standard and sys.stdin is not None and os.isatty(0):
-        raise Refusal(USAGE, "--key-file -", "standard input is a terminal, which would show what is typed: "
-                      "without --key-file the passphrase is asked for")
+        raise Refusal(USAGE, "--key-file -", "standard input is a terminal, which would show what "
+                      "is typed: without --key-file the passphrase is asked for")
     try:
         descriptor = os.dup(0) if is_standard else os.open(name, os.O_RDONLY | os.O_NOCTTY)
     except (OSError, ValueError) as error:
@@ -263,7 +263,8 @@ class Progress:
         share = 100 * self._done // self._total if self._total else 100
         if self._unit != "B":
             return f"{self._done} of {self._total} {self._unit} ({share} %), {left}"
-        return f"{sized(self._done)} of {sized(self._total)} ({share} %), {sized(int(rate))}/s, {left}"
+        return (f"{sized(self._done)} of {sized(self._total)} ({share} %), {sized(int(rate))}/s, "
+                f"{left}")
 
     def close(self) -> None:
         """Nothing more is shown."""
@@ -281,8 +282,8 @@ def _bar(total: int, unit: str) -> Optional[object]:
     # (no thread that watches the bar)
     tqdm.tqdm.monitor_interval = 0
     is_bytes = unit == "B"
-    return tqdm.tqdm(total=total, unit="B" if is_bytes else f" {unit}", unit_scale=is_bytes, unit_divisor=1024,
-                     file=sys.stderr, leave=False, dynamic_ncols=True)
+    return tqdm.tqdm(total=total, unit="B" if is_bytes else f" {unit}", unit_scale=is_bytes,
+                     unit_divisor=1024, file=sys.stderr, leave=False, dynamic_ncols=True)
 
 
 def _clock(seconds: float) -> str:

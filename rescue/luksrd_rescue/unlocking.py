@@ -13,7 +13,7 @@ from typing import Callable, NamedTuple, Optional
 
 from . import choosing, terminal, tools
 from .audit import Found, Slot
-from .command import FAILED, IMAGE, MEMORY, NO_KEY, USAGE, Refusal, number, say, sized
+from .command import FAILED, IMAGE, MEMORY, NO_KEY, USAGE, Refusal, number, say, shown, sized
 from .image import Image, Loaded, Lost, open_image
 
 tools.prepare_library()
@@ -25,9 +25,10 @@ TRIES = 3
 # where the header of LUKS1 has its key slots, of so many bytes each
 _SLOTS1, _SLOT1_BYTES = 208, 48
 CIPHERS = ["aes-xts-plain64", "aes-xts-plain", "aes-cbc-essiv:sha256", "aes-cbc-plain64"]
-KEYBOARD = ("Caps Lock or Num Lock may be on, and at boot the keyboard may have had another layout: "
-            "type the passphrase as if on that one")
-NEWLINE = "the key file ends with a newline, which counts: that is probably why. Make it without one"
+KEYBOARD = ("Caps Lock or Num Lock may be on, and at boot the keyboard may have had another layout:"
+            " type the passphrase as if on that one")
+NEWLINE = ("the key file ends with a newline, which counts: that is probably why. Make it without "
+           "one")
 
 
 class Unlocked(NamedTuple):
@@ -92,8 +93,8 @@ def unlock(image: Image, volume: choosing.Volume, arguments: argparse.Namespace,
     try:
         luksrd.library_version()
     except OSError as error:
-        raise Refusal(USAGE, "", "the library of luksrd is not found: install libluksrd2, or name its "
-                      f"file by LUKSRD_LIBRARY ({error})") from error
+        raise Refusal(USAGE, "", "the library of luksrd is not found: install libluksrd2, or name "
+                      f"its file by LUKSRD_LIBRARY ({error})") from error
     with contextlib.ExitStack() as cleanup:
         attempt = _Attempt(image, volume, arguments, source or image, cleanup)
         if arguments.volume_key_file is not None:
@@ -136,7 +137,8 @@ class _Attempt:
             used = "" if facts.version == 1 else f"; the {facts.raw.get('header')} header is used"
             say(self._image.path, f"sectors of the header cannot be read{used}")
         if facts.fault:
-            raise Refusal(USAGE, self._image.path, f"luksrd does not read this volume: {facts.fault}")
+            raise Refusal(USAGE, self._image.path,
+                          f"luksrd does not read this volume: {facts.fault}")
         self._slots = [slot for slot in self._wanted(facts) if self._is_there(slot)]
         if not self._slots:
             raise self._nothing_to_try(facts)
@@ -153,36 +155,39 @@ class _Attempt:
             if slot.number == wanted:
                 return [slot]
         numbers = ", ".join(str(it.number) for it in facts.slots) or "none"
-        raise Refusal(USAGE, self._image.path, f"key slot {wanted} is not in use; in use: {numbers}")
+        raise Refusal(USAGE, self._image.path,
+                      f"key slot {wanted} is not in use; in use: {numbers}")
 
     def _is_there(self, slot: Slot) -> bool:
-        """Whether the key material of a slot can be read, and what LUKS1, which has no checksum, has
-        of it in the header; says so if not."""
+        """Whether the key material of a slot can be read, and what LUKS1, which has no checksum,
+        has of it in the header; says so if not."""
         start = _SLOTS1 + slot.number * _SLOT1_BYTES
         if self._facts.version == 1 and self._head.is_lost(start, _SLOT1_BYTES):
-            say(self._image.path, f"key slot {slot.number} is left out: its part of the header cannot "
-                "be read")
+            say(self._image.path, f"key slot {slot.number} is left out: its part of the header "
+                "cannot be read")
             return False
         is_lost = self._head.is_lost(slot.area_offset, slot.area_length)
         if is_lost:
-            say(self._image.path, f"key slot {slot.number} is left out: its key area has sectors that "
-                "cannot be read")
+            say(self._image.path, f"key slot {slot.number} is left out: its key area has sectors "
+                "that cannot be read")
         return not is_lost
 
     def _nothing_to_try(self, facts: Found) -> Refusal:
         if any(it.can_try and self._head.is_lost(it.area_offset, it.area_length)
                for it in facts.slots):
-            return Refusal(FAILED, self._image.path, "no key slot can be read; if there is a backup "
-                           "of the header, name it by --header")
+            return Refusal(FAILED, self._image.path, "no key slot can be read; if there is a "
+                           "backup of the header, name it by --header")
         reasons = "; ".join(f"key slot {it.number} {it.words}" for it in facts.slots)
-        return Refusal(USAGE, self._image.path, f"no key slot can be tried: {reasons or 'none is in use'}")
+        return Refusal(USAGE, self._image.path,
+                       f"no key slot can be tried: {reasons or 'none is in use'}")
 
     def _no_header(self) -> Refusal:
         if self._head.lost:
-            return Refusal(FAILED, self._image.path, "the header cannot be read; if there is a backup "
-                           "of it, name it by --header, and the volume key by --volume-key-file")
-        return Refusal(IMAGE, self._image.path, "there is no LUKS header here; if there is a backup of "
-                       "it, name it by --header")
+            return Refusal(FAILED, self._image.path, "the header cannot be read; if there is a "
+                           "backup of it, name it by --header, and the volume key by "
+                           "--volume-key-file")
+        return Refusal(IMAGE, self._image.path, "there is no LUKS header here; if there is a "
+                       "backup of it, name it by --header")
 
     def by_key_file(self, secret: bytearray) -> Unlocked:
         """Opens the volume by these bytes."""
@@ -196,7 +201,8 @@ class _Attempt:
         ends_with_newline = secret.endswith(b"\n")
         terminal.wipe(secret)
         why = f"; {NEWLINE}" if ends_with_newline else ""
-        raise Refusal(NO_KEY, self._image.path, f"no key slot opens by this key file{self._left_out()}{why}")
+        raise Refusal(NO_KEY, self._image.path,
+                      f"no key slot opens by this key file{self._left_out()}{why}")
 
     def by_typing(self) -> Unlocked:
         """Opens the volume by a passphrase that is asked for, three times at most."""
@@ -216,14 +222,17 @@ class _Attempt:
     def _name(self) -> str:
         """The volume as the prompt names it."""
         place = self._volume.partition
-        label = f" ({self._facts.label})" if self._facts.label else ""
-        return f"{self._image.path}{f', partition {place.number}' if place else ''}{label}"
+        part = f", partition {place.number}" if place else ""
+        label = f" ({shown(self._facts.label)})" if self._facts.label else ""
+        return f"{shown(self._image.path)}{part}{label}"
 
     def _left_out(self) -> str:
         """Which slots were not tried."""
         tried = {slot.number for slot in self._slots}
         others = [str(it.number) for it in self._facts.slots if it.number not in tried]
-        return f" (not tried: {', '.join(others)})" if others and self._arguments.key_slot is None else ""
+        if not others or self._arguments.key_slot is not None:
+            return ""
+        return f" (not tried: {', '.join(others)})"
 
     def _try(self, secret: bytearray) -> Optional[luksrd.Volume]:
         """The volume, if a slot opens by this passphrase. A slot that cannot be tried for another
@@ -254,7 +263,7 @@ class _Attempt:
         return opened
 
     def by_volume_key(self) -> Unlocked:
-        """Opens the volume by its key; its geometry is that of the header, unless options say it."""
+        """Opens the volume by its key; its geometry is the header's, unless options say it."""
         numbers = geometry(self._arguments, self._facts, self._image.path)
         with contextlib.ExitStack() as cleanup:
             secret = terminal.read_key_file(self._arguments.volume_key_file)
@@ -271,13 +280,14 @@ class _Attempt:
                     found = luksrd.open_by_volume_key(self._source, volume_key=secret, **numbers,
                                                       **self._part())
                 except luksrd.WrongKeyError as error:
-                    raise Refusal(NO_KEY, self._image.path, "the volume key is not that of the header"
-                                  ) from error
+                    raise Refusal(NO_KEY, self._image.path,
+                                  "the volume key is not that of the header") from error
                 except ValueError as error:
                     raise Refusal(USAGE, self._arguments.volume_key_file, str(error)) from error
-            if self._facts is None or any(issubclass(it.category, luksrd.UncheckedKeyWarning) for it in seen):
-                say(self._image.path, "nothing tells whether the volume key is the right one: if it is "
-                    "not, the plaintext is noise")
+            is_unchecked = any(issubclass(it.category, luksrd.UncheckedKeyWarning) for it in seen)
+            if self._facts is None or is_unchecked:
+                say(self._image.path, "nothing tells whether the volume key is the right one: if "
+                    "it is not, the plaintext is noise")
             return found
         return opened
 
@@ -292,9 +302,11 @@ def geometry(arguments: argparse.Namespace, facts: Optional[Found], path: str) -
         raise Refusal(USAGE, path, "there is no header to say where the payload begins: add "
                       "--payload-offset (often 16Mi in LUKS2, 2Mi in LUKS1), and --cipher and "
                       "--sector-size if they differ")
-    return {"payload_offset": payload, "cipher": arguments.cipher or (facts and facts.cipher) or CIPHERS[0],
+    return {"payload_offset": payload,
+            "cipher": arguments.cipher or (facts and facts.cipher) or CIPHERS[0],
             "sector_size": arguments.sector_size or (facts.sector_size if facts else 512),
-            "iv_offset": facts.iv_tweak if facts else 0, "size": facts.segment_size if facts else None}
+            "iv_offset": facts.iv_tweak if facts else 0,
+            "size": facts.segment_size if facts else None}
 
 
 def _reason(error: luksrd.LuksError) -> str:
@@ -302,7 +314,8 @@ def _reason(error: luksrd.LuksError) -> str:
 
 
 def _warn_of_memory(image: Image, slot: Slot) -> None:
-    """Says if a slot needs more memory than the machine has left: the system may end the program."""
+    """Says if a slot needs more memory than the machine has left: the system may end the
+    program."""
     available = available_memory()
     if slot.memory and available is not None and slot.memory > available:
         say(image.path, f"key slot {slot.number} needs {sized(slot.memory)} of memory, and only "

@@ -111,7 +111,7 @@ class Work:
     def run(self, progress: Progress) -> None:
         """Decrypts all parts. However it ends, what is written is on the disk, and in the map."""
         workers = [threading.Thread(target=self._work, daemon=True) for _ in range(self._threads)]
-        keepers = [threading.Thread(target=self._keep, daemon=True)] if self._map_path is not None else []
+        keepers = [threading.Thread(target=self._keep, daemon=True)] if self._map_path else []
         for thread in [*workers, *keepers]:
             thread.start()
         try:

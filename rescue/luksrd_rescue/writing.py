@@ -10,7 +10,7 @@ import stat
 from typing import Iterator, NamedTuple, Optional, Protocol
 
 from . import related
-from .command import FAILED, USAGE, Refusal, say, sized
+from .command import FAILED, USAGE, Refusal, say, shown, sized
 
 # What is a hole in a file, if it is all zeros: the blocks of most file systems
 BLOCK = 4096
@@ -62,7 +62,8 @@ def zero_runs(view: memoryview, offset: int) -> Iterator[tuple[int, int, bool]]:
     start, at = 0, -offset % BLOCK
     # (few blocks begin with a zero)
     for first in view[at::BLOCK].tobytes():
-        is_zeros = first == 0 and at + BLOCK <= len(view) and view[at:at + BLOCK].tobytes() == _ZEROS
+        is_whole = at + BLOCK <= len(view)
+        is_zeros = first == 0 and is_whole and view[at:at + BLOCK].tobytes() == _ZEROS
         if is_zeros:
             if start < at:
                 yield start, at, False
@@ -179,7 +180,8 @@ class Target:
         if self._goes_on:
             raise Refusal(USAGE, "-o -", "a pipe cannot be gone on with")
         if os.isatty(1):
-            raise Refusal(USAGE, "-o -", "standard output is a terminal: redirect it, or name a file")
+            raise Refusal(USAGE, "-o -",
+                          "standard output is a terminal: redirect it, or name a file")
         self._refuse_kept(os.fstat(1), kept)
 
     def _check_folder(self, kept: list[Kept]) -> None:
@@ -196,7 +198,8 @@ class Target:
         if stat.S_ISDIR(self._found.st_mode):
             raise Refusal(USAGE, self.path, "is a folder")
         if not stat.S_ISREG(self._found.st_mode):
-            raise Refusal(USAGE, self.path, "is neither a file nor a block device (-o - writes to a pipe)")
+            raise Refusal(USAGE, self.path,
+                          "is neither a file nor a block device (-o - writes to a pipe)")
         self._refuse_kept(self._found, kept)
         if not self._goes_on and not self._is_forced:
             raise Refusal(USAGE, self.path, "there is such a file: --resume goes on with it, and "
@@ -213,8 +216,8 @@ class Target:
     def _refuse_kept(self, found: os.stat_result, kept: list[Kept]) -> None:
         for it in kept:
             if related.are_related(found, it.identity) or related.is_inside(found, it.identity):
-                raise Refusal(USAGE, shown_path(self.path), f"is {it.path} itself, a part of it, or what it is a "
-                              "part of: nothing is written there")
+                raise Refusal(USAGE, shown_path(self.path), f"is {shown(it.path)} itself, a part of it, "
+                              "or what it is a part of: nothing is written there")
 
     def remove(self) -> None:
         """Takes a file that was made back, since nothing will be written to it."""
@@ -232,7 +235,8 @@ class Target:
             free += self._found.st_blocks * 512 if self._found else 0
             if free < length:
                 say(self.path, f"there is room for {sized(free)}, and the plaintext has "
-                    f"{sized(length)}: up to {sized(length - free)} may be missing (zeros take no room)")
+                    f"{sized(length)}: up to {sized(length - free)} may be missing (zeros take no "
+                    "room)")
 
     def open(self, length: int, kept: list[Kept], is_new: bool) -> Output:
         """Creates the output, or opens that of an earlier run."""
@@ -242,7 +246,8 @@ class Target:
             return self._device(length) if self.is_device else self._file(length, kept, is_new)
         except OSError as error:
             if error.errno == errno.EEXIST:
-                raise Refusal(USAGE, self.path, "another program has just made this file") from error
+                raise Refusal(USAGE, self.path,
+                              "another program has just made this file") from error
             raise Refusal(FAILED, self.path, f"cannot write to it: {error.strerror}") from error
 
     def _device(self, length: int) -> Output:
@@ -268,8 +273,8 @@ class Target:
                 os.fchmod(descriptor, 0o600)
                 os.ftruncate(descriptor, length)
             elif found.st_size != length:
-                raise Refusal(USAGE, self.path, f"has {found.st_size} bytes, and the map is of a file of "
-                              f"{length}: it is another file, or was changed")
+                raise Refusal(USAGE, self.path, f"has {found.st_size} bytes, and the map is of a "
+                              f"file of {length}: it is another file, or was changed")
         except BaseException:
             os.close(descriptor)
             raise
@@ -283,4 +288,5 @@ def _status(path: str) -> Optional[os.stat_result]:
     except FileNotFoundError:
         return None
     except (OSError, ValueError) as error:
-        raise Refusal(USAGE, path, f"cannot be written: {getattr(error, 'strerror', error)}") from error
+        why = getattr(error, "strerror", error)
+        raise Refusal(USAGE, path, f"cannot be written: {why}") from error
