@@ -62,7 +62,16 @@ def same(one, other):
         return all(first.read(PIECE) == second.read(PIECE) for _ in range(-(-one.stat().st_size // PIECE)))
 
 
+def has_come_to(run, condition):
+    """Waits until this holds of a run, which must not end before."""
+    wait_until(lambda: condition() or run.poll() is not None)
+    assert run.poll() is None, run.communicate()
+
+
 def blocks_of(path):
+    """The blocks of a map, if it is there."""
+    if not path.exists():
+        return []
     rows = re.findall(r"^(0x\w+)\s+(0x\w+)\s+(\S)$", path.read_text(), re.MULTILINE)
     return [(int(start, 16), int(length, 16), status) for start, length, status in rows]
 
@@ -86,7 +95,7 @@ def test_killed(rescue, large, plain, number):
 
 def check_map(folder, plain):
     """What the map of a run that was killed calls done is right."""
-    if not (folder / "plain.map").exists():
+    if not (folder / "plain").exists():
         return
     with open(folder / "plain", "rb") as written, open(plain, "rb") as wanted:
         for start, length, status in blocks_of(folder / "plain.map"):
@@ -97,7 +106,7 @@ def check_map(folder, plain):
 
 def test_killed_and_gone_on_with_once(rescue, large, plain):
     run = rescue.start(*COMMAND)
-    wait_until(lambda: (rescue.folder / "plain.map").exists() and len(blocks_of(rescue.folder / "plain.map")) > 1)
+    has_come_to(run, lambda: len(blocks_of(rescue.folder / "plain.map")) > 1)
     run.kill()
     run.wait()
     run.communicate()
@@ -115,6 +124,8 @@ def payload_read(line, volume):
 def calls_of(trace):
     """The calls in a trace of threads, each on one line, at the place of its end, after the thread's number."""
     begun, found = {}, []
+    if not trace.exists():
+        return []
     for line in trace.read_text(errors="replace").splitlines():
         thread, _, call = line.partition(" ")
         call = call.strip()
@@ -169,7 +180,7 @@ def test_what_is_read_again(rescue, large, plain):
     trace = ["strace", "-f", "-y", "-qq", "-e", "trace=preadv,preadv2"]
     run = rescue.start(*COMMAND, "--quiet", before=[*trace, "-o", "trace1"])
     first = rescue.folder / "trace1"
-    wait_until(lambda: first.exists() and sum(length for _, length in payload_reads(first, large)) > 96 << 20)
+    has_come_to(run, lambda: sum(length for _, length in payload_reads(first, large)) > 96 << 20)
     os.killpg(run.pid, signal.SIGKILL)
     run.communicate()
     says(rescue(*COMMAND, "--quiet", "--resume", before=[*trace, "-o", "trace2"]), status=0)
@@ -180,7 +191,7 @@ def test_what_is_read_again(rescue, large, plain):
 
 def test_interrupted(rescue, large, plain):
     run = rescue.start(*COMMAND, "--quiet")
-    wait_until(lambda: (rescue.folder / "plain.map").exists() and len(blocks_of(rescue.folder / "plain.map")) > 1)
+    has_come_to(run, lambda: len(blocks_of(rescue.folder / "plain.map")) > 1)
     run.send_signal(signal.SIGINT)
     _, message = run.communicate()
     assert run.returncode == 130

@@ -270,5 +270,5 @@ def _describe(arguments: argparse.Namespace, begun: _Begun) -> None:
         again = f"luksrd-rescue decrypt {quoted(arguments.image)}{choosing.words_of(arguments)}"
         for line in contents.lines(found, again):
             print(line)
-    except (Refusal, OSError) as error:
-        say(arguments.output, f"what it is was not found out: {error}")
+    except (Refusal, OSError, ValueError, LookupError) as error:
+        say(arguments.output, f"what it is was not found out: {getattr(error, 'why', error)}")

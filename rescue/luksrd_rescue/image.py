@@ -114,7 +114,7 @@ class Image:
             part = view[start - offset:start - offset + length]
             if smaller > self.sector:
                 self._fill(part, start, tuple(it for it in sizes if it < smaller), lost)
-            elif self._try(part, start) < length and not self._try_directly(part, start):
+            elif not self._read_sector(part, start):
                 part[:] = bytes(length)
                 _note(lost, start, length)
 
@@ -137,17 +137,25 @@ class Image:
         if error.errno in _GONE and self.is_device:
             raise Refusal(FAILED, self.path, f"the disk is gone: {error.strerror}") from error
 
-    def _try_directly(self, view: memoryview, offset: int) -> bool:
-        """Reads a sector, or a part of one, past the page cache, which loses its whole page."""
-        unit = self.sector
+    def _read_sector(self, view: memoryview, offset: int) -> bool:
+        """Reads a sector, or a part of one: if possible past the page cache, which would lose its
+        whole page, and read that again and again."""
+        found = self._try_directly(view, offset)
+        return self._try(view, offset) == len(view) if found is None else found
+
+    def _try_directly(self, view: memoryview, offset: int) -> Optional[bool]:
+        """Reads past the page cache, or returns None if that is not possible here."""
+        unit, descriptor = self.sector, self._direct_file()
+        if descriptor < 0:
+            return None
         first = offset // unit * unit
         with mmap.mmap(-1, unit) as buffer, memoryview(buffer) as aligned:
             try:
-                descriptor = self._direct_file()
-                got = os.preadv(descriptor, [aligned], first) if descriptor >= 0 else 0
+                got = os.preadv(descriptor, [aligned], first)
             except OSError as error:
                 self._check(error)
-                return False
+                # (sectors of another size, below a file system)
+                return None if error.errno == errno.EINVAL else False
             start = offset - first
             if got < start + len(view):
                 return False

@@ -8,7 +8,7 @@ import threading
 from typing import Iterator, NamedTuple, Optional
 
 from . import maps
-from .command import Refusal
+from .command import Refusal, shown
 from .image import Image, Loaded
 from .terminal import Progress
 from .writing import Output, failed
@@ -264,4 +264,4 @@ def kept_for_later(refusal: Refusal, map_path: Optional[str]) -> Refusal:
     if map_path is None:
         return refusal
     return Refusal(refusal.status, refusal.what, f"{refusal.why}; what is written is kept, and "
-                   f"--resume goes on with it by {map_path}")
+                   f"--resume goes on with it by {shown(map_path)}")
