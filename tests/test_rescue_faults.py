@@ -153,6 +153,7 @@ def test_map_of_the_image(rescue, volume, kinds, lines, lost):
     assert (rescue.folder / "plain").read_bytes() == with_zeros(plain, places)
 
 
+@pytest.mark.of_script
 @pytest.mark.parametrize("text, line", [
     ("", 0), ("nonsense\n", 1), ("0 + 1\n0 10\n", 2), ("0 + 1\n0 10 x\n", 2), ("0 + 1\n0 0 +\n", 2),
     ("0 + 1\n0 10 +\n5 10 +\n", 3), ("# only\n", 1), ("0 + 1\n-5 10 +\n", 2), ("\0\xff", 1)])

@@ -26,6 +26,7 @@ def test_file_is_private_and_new(rescue, disk1, kinds):
     assert plain.read_bytes() == kinds.text(VOLUME1) and stat.S_IMODE(plain.stat().st_mode) == 0o600
 
 
+@pytest.mark.of_script
 @pytest.mark.parametrize("how", ["itself", "link", "symbolic link", "header", "key file", "image map",
                                  "standard output", "map"])
 def test_output_is_an_input(rescue, disk2, how):
@@ -45,6 +46,7 @@ def test_output_is_an_input(rescue, disk2, how):
     assert {name: (folder / name).read_bytes() for name in before} == before
 
 
+@pytest.mark.of_script
 @pytest.mark.parametrize("output, text", [
     ("folder", "is a folder"), ("no/such", "there is no such folder"), ("fifo", "is neither a file nor a block device"),
     ("dangling", "is a link to a file that is not there"), ("/dev/full", "is neither a file nor a block device"),
@@ -58,6 +60,7 @@ def test_output_that_cannot_be(rescue, disk1, output, text):
     says(rescue("decrypt", disk1, "--key-file", "pass", "-o", output, "--force"), text, status=1)
 
 
+@pytest.mark.of_script
 def test_standard_output_that_is_a_terminal(rescue, disk1):
     with Terminal(rescue, "decrypt", "disk.img", "--key-file", "pass", "-o", "-") as terminal:
         assert terminal.ended() == 1 and b"standard output is a terminal" in terminal.shown
@@ -110,11 +113,13 @@ def test_numbers(word, value):
     assert number(word) == value
 
 
+@pytest.mark.of_script
 @pytest.mark.parametrize("word", ["", "1K", "1m", "x", "-1", "1 ", "1e3", "9223372036854775808", "08", "1.5M"])
 def test_no_numbers(rescue, disk1, word):
     says(rescue("decrypt", disk1, f"--offset={word}", "-o", "plain"), "--offset", status=1)
 
 
+@pytest.mark.of_script
 @pytest.mark.parametrize("words, text", [
     ([], "usage"), (["nonsense"], "usage"), (["decrypt"], "usage"), (["decrypt", "disk.img"], "usage"),
     (["decrypt", "disk.img", "-o", "x", "--key-slot", "32"], "--key-slot"),
@@ -128,6 +133,7 @@ def test_arguments_that_cannot_be(rescue, disk1, words, text):
     says(rescue(*words), text, status=1)
 
 
+@pytest.mark.of_script
 @pytest.mark.parametrize("image, text, status", [
     ("missing", "missing: cannot open: No such file or directory", 4), (".", "is a folder", 4),
     ("/dev/null", "is neither", 4),
