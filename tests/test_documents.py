@@ -20,6 +20,8 @@ NEW = b"a new passphrase"
 SLOT = "Key slot 0 opens the volume."
 QUICK = "--pbkdf pbkdf2 --pbkdf-force-iterations 1000"
 ARGON2 = "--pbkdf argon2id --pbkdf-force-iterations 4 --pbkdf-memory 32768 --pbkdf-parallel 1"
+# what tests/test_rescue_laptops.py runs, and what it prints
+RESCUE = "luksrd-rescue |UUID |slot "
 PROTOTYPE = "/\n0 0\nd--755 0 0\netc d--755 0 0\nfstab ---644 0 0 files/etc/fstab\n$\n$\n"
 
 
@@ -418,8 +420,8 @@ def test_first_lines():
 
 
 @pytest.mark.parametrize("name, but", [
-    ("README.md", "make |mount |luksrd-audit "), ("RECIPES.md", "mount "),
-    ("RESCUE.md", "luksrd-audit "), ("MIGRATION.md", "luksrd-audit "), ("PROGRAMMERS.md", "cc ")])
+    ("README.md", f"make |mount |luksrd-audit |{RESCUE}"), ("RECIPES.md", "mount "),
+    ("RESCUE.md", f"luksrd-audit |mount |ddrescue |{RESCUE}"), ("MIGRATION.md", "luksrd-audit "), ("PROGRAMMERS.md", "cc ")])
 def test_whole_document(name, but):
     """Each line of commands is in a recipe that is run here."""
     places = [place for case in [*CASES.values(), *MORE.values()] for place in case.places]

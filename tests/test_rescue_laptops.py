@@ -11,6 +11,7 @@ import pytest
 import volumes
 from disks import EFI, LUKS, MIB, disk, file_system, row
 from rescuing import Terminal
+from documents import document
 from support import alone, must, namespace, needs, run, wait_until
 from volumes import PASS, copy_of, cryptsetup, luks1, passphrases
 
@@ -238,3 +239,63 @@ class TestBadSectors:
             assert terminal.ended() == 0
 
 
+
+
+# ---- README and RESCUE.md
+
+def shown_in(name):
+    """What this document says that `look` prints."""
+    return re.search(r"^```text\n(laptop\.img: .*?)^```$", document(name).read_text(), re.MULTILINE | re.DOTALL)[1]
+
+
+def documented_disk(folder, text):
+    """A disk like the one in the documents, with the numbers that these have."""
+    uuid, iterations = re.search(r"UUID ([0-9a-f-]{36})", text)[1], re.search(r"sha256, ([0-9,]+) iter", text)[1]
+    passphrases(folder)
+    path = folder / "laptop.img"
+    for name, length in ("volume", 20 * MIB), ("laptop.img", 16 << 30):
+        (folder / name).touch()
+        os.truncate(folder / name, length)
+    must("sfdisk", "-q", path, stdin=b"label: gpt\nstart=2048, size=1048576, type=uefi, name=\"EFI System Partition\"\n"
+         b"size=1048576, type=linux\nsize=+, type=linux\n")
+    cryptsetup("luksFormat --type luks2 --pbkdf pbkdf2 --key-file pass --pbkdf-force-iterations",
+               iterations.replace(",", ""), "--uuid", uuid, "volume", cwd=folder)
+    for name in "efi", "boot":
+        (folder / name).touch()
+        os.truncate(folder / name, 512 * MIB)
+    must("mkfs.vfat", "-n", "ESP", folder / "efi")
+    must("mke2fs", "-q", "-t", "ext4", "-L", "boot", folder / "boot")
+    for name, offset in {"efi": 1, "boot": 513, "volume": 1025}.items():
+        with open(folder / name, "rb") as file:
+            volumes.overwrite(path, offset * MIB, file.read(20 * MIB))
+
+
+def test_what_the_documents_show(rescue, tmp_path):
+    """What look prints of a disk like that; the commands after it depend on the room that there is."""
+    text = shown_in("README.md")
+    assert shown_in("RESCUE.md") == text
+    documented_disk(tmp_path, text)
+    ended = rescue("look", "laptop.img")
+    assert ended.status == 0, ended
+    printed, _, steps = ended.output.decode().partition("\n\n")
+    wanted, _, wanted_steps = text.partition("\n\n")
+    assert printed == wanted
+
+    def commands(lines):
+        return sorted(line.replace("/PATH/TO/ANOTHER/DISK/", "") for line in lines.splitlines() if line.startswith("    "))
+
+    assert commands(steps) == commands(wanted_steps)
+
+
+DOCUMENTED = [line for name in ("README.md", "RESCUE.md") for line in re.findall(
+    r"^(?:    |\|.*?`)((?:luksrd-rescue )?(?:look|decrypt|serve|try) [^`#|(\n]*)", document(name).read_text(), re.MULTILINE)]
+
+
+@pytest.mark.of_script
+@pytest.mark.parametrize("line", sorted({line.strip() for line in DOCUMENTED}))
+def test_commands_of_the_documents(rescue, line):
+    """Each is one that the program knows: without the image it says that, and not how it is used."""
+    words = shlex.split(line.removeprefix("luksrd-rescue "))
+    ended = rescue(*words)
+    assert ended.status in (1, 4) and "usage:" not in ended.message, (line, ended)
+    assert re.search(r"cannot open( the map)?: No such file", ended.message), (line, ended)
