@@ -79,6 +79,13 @@ def test_by_the_volume_key(serve, kinds):
         assert served.path.read_bytes() == kinds.text(VOLUME2)
 
 
+@pytest.mark.parametrize("key", ["-", "/dev/stdin"])
+def test_a_volume_key_that_is_read_once(rescue, filter, kinds, key):
+    ended = rescue("serve", kinds / VOLUME2, "plain", "--volume-key-file", key, stdin=kinds / f"{VOLUME2}.key",
+                   env={"LUKSRD_FILTER": str(filter)})
+    assert ended == (1, b"", "luksrd-rescue: --volume-key-file: is read twice, so it has to be a file\n") or key != "-"
+
+
 def test_in_a_partition(serve, kinds, tmp_path):
     content = (kinds / VOLUME2).read_bytes()
     length = -(-len(content) // MIB) * MIB

@@ -60,6 +60,10 @@ class Programs(NamedTuple):
 def run(arguments: argparse.Namespace) -> int:
     """Serves the volume until it is unmounted."""
     programs = _programs()
+    key = arguments.volume_key_file
+    if key is not None and os.path.lexists(key) and not os.path.isfile(key) or key == "-":
+        # (here, and then by nbdkit)
+        raise Refusal(USAGE, "--volume-key-file", "is read twice, so it has to be a file")
     with contextlib.ExitStack() as cleanup:
         image = cleanup.enter_context(open_image(arguments.image, arguments.image_map))
         volume = choosing.choose(image.patched(), arguments)
