@@ -3,7 +3,6 @@ that lvs reports, and `luksrd-rescue decrypt --lv` writes them out of a LUKS vol
 
 import os
 import pathlib
-import re
 import struct
 import sys
 import types

@@ -122,7 +122,8 @@ def test_sectors_of_4096_bytes(rescue, laptop, loop, tmp_path):
         assert (volume["partition"], volume["offset"], volume["length"]) == (2, 4 * MIB, 8 * MIB)
 
 
-@pytest.mark.parametrize("left", [16 * MIB, PLACES["luks"] + 100000, 8 * MIB])
+@pytest.mark.parametrize("left", [16 * MIB, PLACES["luks"] + 100000,
+                                  pytest.param(8 * MIB, marks=pytest.mark.of_script)])
 def test_a_truncated_disk(rescue, laptop, tmp_path, left):
     """The copy ends inside a partition: partx alone lists nothing then."""
     os.truncate(copy_of(laptop.disk, tmp_path / "cut.img"), left)
@@ -162,6 +163,7 @@ def test_a_search_in_spite_of_a_table(rescue, laptop, tmp_path):
     assert volume["offset"] == PLACES["luks"]
 
 
+@pytest.mark.of_script
 def test_nothing_at_all(rescue, tmp_path):
     (tmp_path / "empty.img").write_bytes(bytes(MIB))
     text = text_of(rescue, "empty.img", status=4)
@@ -170,6 +172,7 @@ def test_nothing_at_all(rescue, tmp_path):
     assert text_of(rescue, "none", status=4).startswith("none: 0 bytes, without a partition table")
 
 
+@pytest.mark.of_script
 def test_a_file_system(rescue, tmp_path):
     (tmp_path / "plain.img").write_bytes(file_system(tmp_path / "fs", "ext4", 4 * MIB, "root"))
     text = text_of(rescue, "plain.img", status=4)
@@ -185,6 +188,7 @@ PACKERS = {"xz": ["xz", "-k"], "gz": ["gzip", "-k"], "zst": ["zstd", "-q"]}
 PACKED = {"xz": "compressed by xz", "gz": "compressed by gzip", "zst": "compressed by zstd"}
 
 
+@pytest.mark.of_script
 @needs("qemu-img", "zstd", "xz")
 @pytest.mark.parametrize("ending", [*QEMU, *PACKERS])
 def test_another_form(rescue, laptop, tmp_path, ending):
@@ -241,6 +245,7 @@ def test_a_damaged_header(rescue, laptop, tmp_path, at, words):
     assert f"    damaged: {words}\n" in text_of(rescue, "disk.img")
 
 
+@pytest.mark.of_script
 def test_no_whole_header(rescue, laptop, tmp_path):
     """blkid calls it LUKS, and it cannot be read."""
     image = copy_of(laptop.disk, tmp_path / "disk.img")
@@ -363,6 +368,7 @@ def test_a_failed_read(rescue, laptop, bad_sectors, tmp_path, at, places):
                     "Then decrypt with --image-map disk.map, which has the sectors that were not read."]
 
 
+@pytest.mark.of_script
 @pytest.mark.parametrize("program, package", [("partx", "util-linux"), ("blkid", "util-linux")])
 def test_a_missing_program(rescue, laptop, tmp_path, program, package):
     """(In a folder of tools from which it is missing; python3 is named by its path.)"""

@@ -5,17 +5,15 @@ import errno
 import os
 import re
 import signal
-import subprocess
 import sys
 import types
 
 import pytest
-import volumes
 from disks import LUKS, MIB, disk, row
 from kinds import ESSIV, KINDS, VOLUME1, VOLUME2, volume_key_options
 from rescuing import Terminal
 from support import TOP, needs, processes_of, run, wait_until
-from volumes import PASS, copy_of, overwrite
+from volumes import PASS, copy_of
 
 pytestmark = needs("nbdkit", "nbdfuse", "fusermount3", "fuse")
 SERVED = [VOLUME1, VOLUME2, ESSIV, "of fixed size", "detached1", "detached2", "truncated inside a sector of 4096",
@@ -79,11 +77,12 @@ def test_by_the_volume_key(serve, kinds):
         assert served.path.read_bytes() == kinds.text(VOLUME2)
 
 
-@pytest.mark.parametrize("key", ["-", "/dev/stdin"])
+@pytest.mark.of_script
+@pytest.mark.parametrize("key", ["-", "/proc/self/fd/0"])
 def test_a_volume_key_that_is_read_once(rescue, filter, kinds, key):
-    ended = rescue("serve", kinds / VOLUME2, "plain", "--volume-key-file", key, stdin=kinds / f"{VOLUME2}.key",
+    ended = rescue("serve", kinds / VOLUME2, "plain", "--volume-key-file", key, stdin=(kinds / f"{VOLUME2}.key").read_bytes(),
                    env={"LUKSRD_FILTER": str(filter)})
-    assert ended == (1, b"", "luksrd-rescue: --volume-key-file: is read twice, so it has to be a file\n") or key != "-"
+    assert ended == (1, b"", "luksrd-rescue: --volume-key-file: is read twice, so it has to be a file\n")
 
 
 def test_in_a_partition(serve, kinds, tmp_path):
@@ -201,6 +200,7 @@ def test_where_the_passphrase_goes(serve, kinds, tmp_path):
 
 # ---- refusals
 
+@pytest.mark.of_script
 @pytest.mark.parametrize("missing, message", [
     ("nbdkit", "nbdkit: is not installed: run apt-get install nbdkit"),
     ("nbdfuse", "nbdfuse: is not installed: run apt-get install libnbd-bin"),
@@ -215,6 +215,7 @@ def test_a_missing_program(rescue, kinds, tmp_path, missing, message):
     assert not (tmp_path / "plain").exists()
 
 
+@pytest.mark.of_script
 def test_no_filter(rescue, kinds):
     script = ("import sys; sys.path.insert(0, sys.argv.pop(1)); from luksrd_rescue import tools, command; "
               "tools.nbdkit_filter = lambda: None; sys.exit(command.main(sys.argv[1:]))")
