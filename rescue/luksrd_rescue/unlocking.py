@@ -92,9 +92,9 @@ def unlock(image: Image, volume: choosing.Volume, arguments: argparse.Namespace,
     check_options(arguments)
     try:
         luksrd.library_version()
-    except OSError as error:
-        raise Refusal(USAGE, "", "the library of luksrd is not found: install libluksrd2, or name "
-                      f"its file by LUKSRD_LIBRARY ({error})") from error
+    except (OSError, AttributeError) as error:  # (an older library lacks functions)
+        raise Refusal(USAGE, "", "the library of luksrd is not found, or too old: install "
+                      f"libluksrd2, or name its file by LUKSRD_LIBRARY ({error})") from error
     with contextlib.ExitStack() as cleanup:
         attempt = _Attempt(image, volume, arguments, source or image, cleanup)
         if arguments.volume_key_file is not None:
