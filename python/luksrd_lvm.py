@@ -1,4 +1,4 @@
-"""Where the logical volumes of LVM2 are in a physical volume, such as the plaintext of a LUKS volume.
+"""Where the logical volumes of LVM2 are in a physical volume, such as the plaintext of LUKS.
 
     import luksrd, luksrd_lvm
 

@@ -1,6 +1,6 @@
-"""Three laptops, whose disks are looked at, decrypted, tried and served by the commands that luksrd-rescue prints: GPT with LUKS2,
-LVM and ext4; MBR with LUKS1 and ext4; and a whole disk of LUKS2 with XFS and forty bad sectors. In each way at most four
-commands lead to the files. The plaintext is what was encrypted."""
+"""Three laptops, whose disks are looked at, decrypted, tried and served by the commands that luksrd-rescue prints: GPT
+with LUKS2, LVM and ext4; MBR with LUKS1 and ext4; and a whole disk of LUKS2 with XFS and forty bad sectors. In each way at
+most four commands lead to the files. The plaintext is what was encrypted."""
 import os
 import re
 import shlex
@@ -51,7 +51,8 @@ def physical_volume(folder, loop, root, swap_length):
     path.touch()
     os.truncate(path, 4 * MIB + len(root) + swap_length)
     device = loop(path)
-    config = f"""devices {{ filter = ["a|^{device}$|", "r|.*|"] use_devicesfile = 0 }} global {{ locking_dir = "{folder}" }}
+    config = f"""devices {{ filter = ["a|^{device}$|", "r|.*|"] use_devicesfile = 0 }}
+        global {{ locking_dir = "{folder}" }}
         activation {{ udev_sync = 0 udev_rules = 0 }} backup {{ backup = 0 archive = 0 }}"""
 
     def lvm(line):
@@ -282,13 +283,15 @@ def test_what_the_documents_show(rescue, tmp_path):
     assert printed == wanted
 
     def commands(lines):
-        return sorted(line.replace("/PATH/TO/ANOTHER/DISK/", "") for line in lines.splitlines() if line.startswith("    "))
+        return sorted(line.replace("/PATH/TO/ANOTHER/DISK/", "") for line in lines.splitlines()
+                      if line.startswith("    "))
 
     assert commands(steps) == commands(wanted_steps)
 
 
 DOCUMENTED = [line for name in ("README.md", "RESCUE.md") for line in re.findall(
-    r"^(?:    |\|.*?`)((?:luksrd-rescue )?(?:look|decrypt|serve|try) [^`#|(\n]*)", document(name).read_text(), re.MULTILINE)]
+    r"^(?:    |\|.*?`)((?:luksrd-rescue )?(?:look|decrypt|serve|try) [^`#|(\n]*)", document(name).read_text(),
+    re.MULTILINE)]
 
 
 @pytest.mark.of_script

@@ -1,5 +1,5 @@
-"""luksrd-rescue look: what it prints of disks, volumes and headers that sfdisk, cryptsetup and file systems' own tools made,
-and what to type next. blkid, luksDump and the numbers given to sfdisk say what is right."""
+"""luksrd-rescue look: what it prints of disks, volumes and headers that sfdisk, cryptsetup and file systems' own tools
+made, and what to type next. blkid, luksDump and the numbers given to sfdisk say what is right."""
 import json
 import os
 import re
@@ -101,7 +101,8 @@ def test_logical_partitions_of_an_mbr(rescue, kinds, tmp_path):
     disk(tmp_path / "mbr.img", "dos", [row(MIB, MIB, "83"), row(2 * MIB, 5 * MIB, "5"), row(3 * MIB, 4 * MIB, "83")],
          {3 * MIB: content})
     found = found_in(rescue, "mbr.img")
-    assert [(each["number"], each["type"]) for each in found["partitions"]] == [(1, "Linux"), (2, "extended"), (5, "Linux")]
+    assert [(each["number"], each["type"]) for each in found["partitions"]] == [
+        (1, "Linux"), (2, "extended"), (5, "Linux")]
     volume, = found["volumes"]
     assert (volume["partition"], volume["offset"], volume["version"]) == (5, 3 * MIB, 1)
     assert volume["uuid"] == uuid_of(kinds / VOLUME1)
@@ -256,7 +257,8 @@ def test_no_whole_header(rescue, laptop, tmp_path):
 
 
 @pytest.mark.parametrize("change, words", [
-    ({"type": "crypt", "integrity": {"type": "hmac(sha256)", "journal_encryption": "none", "journal_integrity": "none"}},
+    ({"type": "crypt", "integrity": {"type": "hmac(sha256)", "journal_encryption": "none",
+                                     "journal_integrity": "none"}},
      "it has integrity protection: cryptsetup opens it"),
     ({"encryption": "serpent-xts-plain64"}, "luksrd does not read its cipher: cryptsetup opens it")])
 def test_what_cannot_be_decrypted(rescue, laptop, tmp_path, change, words):
@@ -345,8 +347,8 @@ def test_several_images(rescue, laptop, tmp_path):
     assert "5 partitions" in ended.output.decode()
     assert ended.message.splitlines() == [
         "luksrd-rescue: missing: cannot open: No such file or directory",
-        "luksrd-rescue: /dev/null: is neither a regular file nor a block device: an image is read at offsets, so save it "
-        "to a file first",
+        "luksrd-rescue: /dev/null: is neither a regular file nor a block device: an image is read at offsets, so save "
+        "it to a file first",
         f"luksrd-rescue: {tmp_path}: is a folder"]
     ended = rescue("look", "--json", "missing", "laptop.img")
     assert [json.loads(line).get("error") for line in ended.output.splitlines()] == [

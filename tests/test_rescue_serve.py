@@ -1,5 +1,5 @@
-"""luksrd-rescue serve: the plaintext as a file by nbdkit and nbdfuse, compared with the plaintext of volumes of all kinds; how it
-ends, what it leaves, and what it says if something is missing."""
+"""luksrd-rescue serve: the plaintext as a file by nbdkit and nbdfuse, compared with the plaintext of volumes of all
+kinds; how it ends, what it leaves, and what it says if something is missing."""
 import contextlib
 import errno
 import os
@@ -23,7 +23,8 @@ READY = b"ends it."
 
 @pytest.fixture
 def serve(rescue, filter, tmp_path):
-    """serve(IMAGE, WORD..) serves the plaintext in the folder `plain` until the end of the block, and says what is printed."""
+    """serve(IMAGE, WORD..) serves the plaintext in the folder `plain` until the end of the block; said() is what it
+    prints."""
     rescue.variables["LUKSRD_FILTER"] = str(filter)
 
     @contextlib.contextmanager
@@ -69,8 +70,8 @@ def test_kinds(serve, kinds, image):
 
 def test_by_the_volume_key(serve, kinds):
     options = volume_key_options(VOLUME2, {})
-    words = ["--volume-key-file", kinds / options["volume_key_file"], "--payload-offset", str(options["payload_offset"]),
-             "--sector-size", str(options["sector_size"])]
+    words = ["--volume-key-file", kinds / options["volume_key_file"],
+             "--payload-offset", str(options["payload_offset"]), "--sector-size", str(options["sector_size"])]
     with serve(kinds / f"{VOLUME2}.lost", "--offset", "0", *words) as served:
         assert served.path.read_bytes() == kinds.text(VOLUME2)
     with serve(kinds / VOLUME2, *words[:2]) as served:
@@ -80,8 +81,8 @@ def test_by_the_volume_key(serve, kinds):
 @pytest.mark.of_script
 @pytest.mark.parametrize("key", ["-", "/proc/self/fd/0"])
 def test_a_volume_key_that_is_read_once(rescue, filter, kinds, key):
-    ended = rescue("serve", kinds / VOLUME2, "plain", "--volume-key-file", key, stdin=(kinds / f"{VOLUME2}.key").read_bytes(),
-                   env={"LUKSRD_FILTER": str(filter)})
+    ended = rescue("serve", kinds / VOLUME2, "plain", "--volume-key-file", key,
+                   stdin=(kinds / f"{VOLUME2}.key").read_bytes(), env={"LUKSRD_FILTER": str(filter)})
     assert ended == (1, b"", "luksrd-rescue: --volume-key-file: is read twice, so it has to be a file\n")
 
 

@@ -1,5 +1,6 @@
-"""luksrd-rescue try over volumes that qemu-img and cryptsetup make: which line opens which key slot, one at a time and many at
-once; a run that goes on after another one; what ends it. strace shows that no passphrase is an argument or is written."""
+"""luksrd-rescue try over volumes that qemu-img and cryptsetup make: which line opens which key slot, one at a time and
+many at once; a run that goes on after another one; what ends it. strace shows that no passphrase is an argument or is
+written."""
 import json
 import os
 import re
@@ -83,8 +84,8 @@ def test_the_next_command(tries, rescue, tmp_path):
     """The lines that follow give the plaintext."""
     (tmp_path / "it's the list").write_bytes(b"wrong\r\n" + ODD[0] + b"\r\n")
     ended = opens(tries(lines="it's the list"), 2)
-    assert ended.message == ("luksrd-rescue: it's the list: line 1 ends with a carriage return, as Windows writes it: it is "
-                             "taken off, and so are others\n")
+    assert ended.message == ("luksrd-rescue: it's the list: line 1 ends with a carriage return, as Windows writes it: "
+                             "it is taken off, and so are others\n")
     key, decrypt = [line.strip() for line in ended.output.decode().splitlines()[2:]]
     assert run("bash", "-c", key, cwd=tmp_path) == (0, b"", "")
     assert ((tmp_path / "key").read_bytes(), (tmp_path / "key").stat().st_mode & 0o777) == (ODD[0], 0o600)
@@ -146,12 +147,13 @@ def test_a_state(tries, tmp_path):
     opens(tries(*options))
     assert state_of(tmp_path / "state") == 3
     (tmp_path / "one").write_text("one\n")
-    assert tries(*options, lines="one") == (4, b"", "luksrd-rescue: state: is of a file with more lines: one has 1, and 3 are "
-                                            "done\n")
+    assert tries(*options, lines="one") == (
+        4, b"", "luksrd-rescue: state: is of a file with more lines: one has 1, and 3 are done\n")
 
 
 def test_a_state_of_something_else(tries, volume_of, kinds, tmp_path):
-    for text in "3\n", "{}", '{"uuid": "x", "offset": 0, "lines": -1}', "nine", '{"uuid": 1, "offset": [], "lines": true}':
+    for text in ("3\n", "{}", "nine", '{"uuid": "x", "offset": 0, "lines": -1}',
+                 '{"uuid": 1, "offset": [], "lines": true}'):
         (tmp_path / "state").write_text(text)
         assert tries("--state", "state") == (4, b"", "luksrd-rescue: state: is no state of luksrd-rescue try\n")
     (tmp_path / "state").unlink()
@@ -159,7 +161,8 @@ def test_a_state_of_something_else(tries, volume_of, kinds, tmp_path):
     ended = tries("--state", "state", image=volume_of(1))
     assert (ended.status, "luksrd-rescue: state: is of another volume" in ended.message) == (1, True)
     ended = tries("--state", "absent/state", lines="three")
-    assert (ended.status, ended.message) == (6, "luksrd-rescue: absent/state: cannot write: No such file or directory\n")
+    assert (ended.status, ended.message) == (
+        6, "luksrd-rescue: absent/state: cannot write: No such file or directory\n")
 
 
 def test_a_line_that_is_too_long(tries, tmp_path):
@@ -213,8 +216,8 @@ def test_candidates_that_cannot_be_read(tries):
 def test_an_output_that_fails(tries, tmp_path):
     """The state still has the lines that are done."""
     ended = tries("--state", "state", stdout=FULL)
-    assert (ended.status, ended.message) == (6, "luksrd-rescue: standard output: write failed: No space left on device; "
-                                             "line 4 opens key slot 0\n")
+    assert (ended.status, ended.message) == (
+        6, "luksrd-rescue: standard output: write failed: No space left on device; line 4 opens key slot 0\n")
     assert state_of(tmp_path / "state") <= 3
 
 
@@ -296,8 +299,8 @@ def test_memory_that_runs_out(rescue, kinds, tmp_path):
 @needs("strace")
 def test_where_passphrases_go(tries, tmp_path):
     """No line is an argument, and none is written anywhere."""
-    opens(tries("--state", "state", before=["strace", "-f", "-s", "200", "-e", "trace=execve,write,writev,pwrite64,openat",
-                                            "-o", "calls"]))
+    opens(tries("--state", "state", before=[
+        "strace", "-f", "-s", "200", "-e", "trace=execve,write,writev,pwrite64,openat", "-o", "calls"]))
     calls = (tmp_path / "calls").read_text(errors="replace").splitlines()
     assert [line for line in calls if "openat" in line and '"lines"' in line]
     assert [line for line in calls if re.search(r"\b(execve|p?writev?(64)?)\(", line) and "a passphrase" in line] == []

@@ -62,8 +62,10 @@ FAULTS = {
 # The other findings
 FINDINGS = {
     "primary header: not valid": "the first of its two headers is damaged; the second one is used",
-    "secondary header: not valid": "the second of its two headers is damaged; the first one is used",
-    "headers: sequence numbers differ": "its two headers are of different days; the later one is used",
+    "secondary header: not valid":
+        "the second of its two headers is damaged; the first one is used",
+    "headers: sequence numbers differ":
+        "its two headers are of different days; the later one is used",
     "keyslots: name out of range": "it has a key slot with a number above 31, which is left out",
 }
 
@@ -93,7 +95,7 @@ class Slot(NamedTuple):
         reason = self.raw.get("reason")
         if reason in ("argon2i", "argon2id"):
             return tools.has_argon2()
-        # (luksrd-audit takes each header for one that comes before its payload; the library decides)
+        # (luksrd-audit takes each header for one before its payload; the library decides)
         return bool(self.raw.get("can_try")) or reason == "area" and self.is_detached
 
     @property
@@ -124,7 +126,7 @@ class Slot(NamedTuple):
 
     @property
     def area_length(self) -> int:
-        """The bytes of its key material, whole sectors; all of the area if its stripes are unknown."""
+        """The bytes of its key material in whole sectors, or of its area if that is unknown."""
         material = self._number("key_bytes") * self._number("stripes")
         return -(-material // SECTOR) * SECTOR or self._number("area_size")
 
@@ -163,8 +165,8 @@ class Slot(NamedTuple):
 
 
 class Found(NamedTuple):
-    """A LUKS header: `raw` is luksrd-audit's line, `offset` where the volume begins in its image, and
-    `is_apart` whether it was named as one that is in a file of its own."""
+    """A LUKS header: `raw` is luksrd-audit's line, `offset` where the volume begins in its image,
+    and `is_apart` whether it was named as one that is in a file of its own."""
 
     raw: dict[str, Any]
     offset: int
@@ -212,7 +214,7 @@ class Found(NamedTuple):
 
     @property
     def is_detached(self) -> bool:
-        """Whether its payload is elsewhere: a header before its payload never has 0 as its offset."""
+        """Whether its payload is elsewhere: one before its payload never has 0 as its offset."""
         return self.is_apart or self.segment_offset == 0
 
     @property
@@ -254,7 +256,7 @@ class Found(NamedTuple):
 
     @property
     def all_findings(self) -> list[str]:
-        """What is wrong with the header, and what luksrd does not support, as luksCheck prints it."""
+        """What is wrong with the header, and what luksrd does not support, as luksCheck has it."""
         listed = [*(self.raw.get("findings") or []), *(self.raw.get("unsupported") or [])]
         return [each if isinstance(each, str) else f"{each.get('place')}: {each.get('name')}"
                 for each in listed]

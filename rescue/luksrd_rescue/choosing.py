@@ -116,7 +116,7 @@ def _in_range(image, offset: int, length: Optional[int], facts: Optional[audit.F
 
 
 def _with_header(image, facts: audit.Found) -> Volume:
-    """The whole image, whose header is elsewhere; not a disk with partitions, one of which it is."""
+    """The whole image, whose header is elsewhere. Of a disk, a partition has to be named."""
     table = partitions.partitions(image)
     if table:
         numbers = ", ".join(str(each.number) for each in table)

@@ -51,7 +51,8 @@ class Contents(NamedTuple):
     @property
     def words(self) -> str:
         """What it is, for people."""
-        name = TABLES.get(self.kind) or NAMES.get(self.kind, self.kind) or "nothing that blkid knows"
+        name = TABLES.get(self.kind) or NAMES.get(self.kind, self.kind)
+        name = name or "nothing that blkid knows"
         return f"{name}, label {self.label}" if self.label else name
 
 
@@ -103,7 +104,8 @@ def probe(source) -> tuple[str, str]:
         os.close(copy)
     fields = dict(line.split("=", 1) for line in ran.output.decode(errors="replace").splitlines()
                   if "=" in line)
-    return fields.get("TYPE") or fields.get("PTTYPE") or "", fields.get("LABEL", "").replace("\\", "")
+    kind = fields.get("TYPE") or fields.get("PTTYPE") or ""
+    return kind, fields.get("LABEL", "").replace("\\", "")
 
 
 def _copy(source, copy: int) -> None:

@@ -117,7 +117,8 @@ def gather(image: Reader, search: bool, quiet: bool) -> Report:
         table = partitions.partitions(image)
         if table:
             parts = [_part(image, each) for each in table]
-            return empty._replace(parts=parts, volumes=[each.volume for each in parts if each.volume])
+            volumes = [each.volume for each in parts if each.volume]
+            return empty._replace(parts=parts, volumes=volumes)
     kind, label = contents.probe(image)
     if kind and not search and kind != "crypto_LUKS":
         inside = contents.lines(contents.identify(image, image.path))[1:]
@@ -161,7 +162,8 @@ def as_text(report: Report) -> list[str]:
     """The lines for people, and the next commands at their end."""
     name = shown(report.path)
     if report.container:
-        return [f"{name} is {report.container.name}, {sized(report.size)}. Write the image out first:",
+        found = f"{name} is {report.container.name}, {sized(report.size)}"
+        return [f"{found}. Write the image out first:",
                 *_indented(report.container.commands)]
     lines = [f"{name}: {sized(report.size)}, {_what(report)}"]
     lines += [f"  {line}" for line in report.inside]
@@ -283,7 +285,8 @@ def _volume_steps(report: Report, volume: choosing.Volume, must_choose: bool) ->
     if volume.facts.fault or not any(slot.opens for slot in volume.facts.slots):
         return []
     plain, folder = contents.free_name("plain.img"), contents.free_name("plain")
-    decrypt = Step(f"Decrypt {volume.words()} into a file", f"luksrd-rescue decrypt {image} -o {plain}")
+    decrypt = Step(f"Decrypt {volume.words()} into a file",
+                   f"luksrd-rescue decrypt {image} -o {plain}")
     serve = Step("Or show the plaintext as a file, without a copy",
                  f"luksrd-rescue serve {image} {folder}")
     attempt = Step("If the passphrase is one of many, the lines of the file LIST",

@@ -18,7 +18,8 @@ ANY_LENGTH = 1 << 62
 # What people call the types of partitions that a disk with Linux or Windows has
 TYPES = {
     "0x7": "NTFS or exFAT", "0xb": "FAT", "0xc": "FAT", "0xe": "FAT", "0x82": "Linux swap",
-    "0x83": "Linux", "0x8e": "Linux LVM", "0xe8": "LUKS", "0xef": "EFI system", "0xfd": "Linux RAID",
+    "0x83": "Linux", "0x8e": "Linux LVM", "0xe8": "LUKS", "0xef": "EFI system",
+    "0xfd": "Linux RAID",
     **dict.fromkeys(EXTENDED, "extended"),
     "c12a7328-f81f-11d2-ba4b-00a0c93ec93b": "EFI system",
     "21686148-6449-6e6f-744e-656564454649": "BIOS boot",

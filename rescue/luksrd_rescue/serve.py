@@ -35,11 +35,12 @@ def register(subparsers) -> None:
     """Adds the command to those of luksrd-rescue."""
     parser = subparsers.add_parser(
         "serve", help="show the plaintext as a file, without a copy", epilog=EXAMPLES,
-        description="Show the plaintext of a volume as the read-only file DIR/plain, until Ctrl-C or "
-        "`umount DIR`. It needs nbdkit, nbdfuse and luksrd's filter for nbdkit.",
+        description="Show the plaintext of a volume as the read-only file DIR/plain, until Ctrl-C "
+        "or `umount DIR`. It needs nbdkit, nbdfuse and luksrd's filter for nbdkit.",
         formatter_class=argparse.RawDescriptionHelpFormatter)
     parser.add_argument("image", metavar="IMAGE")
-    parser.add_argument("folder", metavar="DIR", help="an empty folder, or one that is not there yet")
+    parser.add_argument("folder", metavar="DIR",
+                        help="an empty folder, or one that is not there yet")
     parser.add_argument("--image-map", metavar="FILE",
                         help="the map of ddrescue: what it does not have is a read error")
     parser.add_argument("--quiet", action="store_true", help="show no progress")
@@ -296,6 +297,6 @@ def _lines(plain: str, opened, arguments: argparse.Namespace, can_mount: bool) -
     decrypt = f"luksrd-rescue decrypt {quoted(arguments.image)}{choosing.words_of(arguments)}"
     lines = contents.lines(contents.identify(opened, plain), decrypt, can_mount)
     if not can_mount:
-        lines.append(f"Root cannot read {plain}, since FUSE shows it to you alone. To mount it, serve it "
-                     f"as root, or first add the line user_allow_other to {FUSE_CONFIG}.")
+        lines.append(f"Root cannot read {plain}, since FUSE shows it to you alone. To mount it, "
+                     f"serve it as root, or first add the line user_allow_other to {FUSE_CONFIG}.")
     return [*lines, f"Ctrl-C here, or umount {quoted(arguments.folder)} elsewhere, ends it."]

@@ -12,8 +12,8 @@ from typing import NamedTuple, Optional
 from .command import Refusal
 
 # The package of Debian that has each program
-PACKAGES = {"partx": "util-linux", "blkid": "util-linux", "nbdkit": "nbdkit", "nbdfuse": "libnbd-bin",
-            "fusermount3": "fuse3", "luksrd-audit": "luksrd-audit"}
+PACKAGES = {"partx": "util-linux", "blkid": "util-linux", "nbdkit": "nbdkit",
+            "nbdfuse": "libnbd-bin", "fusermount3": "fuse3", "luksrd-audit": "luksrd-audit"}
 # A user's own path often lacks the folders in which Debian has partx and blkid
 SYSTEM_FOLDERS = ("/usr/sbin", "/sbin", "/usr/local/sbin")
 
