@@ -1,6 +1,6 @@
 """Three laptops, whose disks are looked at, decrypted, tried and served by the commands that luksrd-rescue prints: GPT
-with LUKS2, LVM and ext4; MBR with LUKS1 and ext4; and a whole disk of LUKS2 with XFS and forty bad sectors. In each way at
-most four commands lead to the files. The plaintext is what was encrypted."""
+with LUKS2, LVM and ext4; MBR with LUKS1 and ext4; and a whole disk of LUKS2 with XFS and forty bad sectors. In each way
+at most four commands lead to the files. The plaintext is what was encrypted."""
 import os
 import re
 import shlex
