@@ -68,6 +68,7 @@ BINARIES = $(DESTDIR)$(PREFIX)/bin
 PAGES = $(DESTDIR)$(PREFIX)/share/man/man1
 LIBRARY_PAGES = $(DESTDIR)$(PREFIX)/share/man/man3
 DOCUMENTS = $(DESTDIR)$(PREFIX)/share/doc/luksrd
+AUDIT_DATA = $(DESTDIR)$(PREFIX)/share/luksrd-audit
 BASH_COMPLETIONS = $(DESTDIR)$(PREFIX)/share/bash-completion/completions
 ZSH_COMPLETIONS = $(DESTDIR)$(ZSH_FUNCTIONS)
 # README.md and what a user reads of what it leads to; packaging/documents installs them

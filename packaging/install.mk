@@ -30,9 +30,10 @@ install-parts: install-program $(if $(wildcard $(PLUGIN)),install-plugin) $(if $
 install-audit:
 	@$(call refuse_packaged,$(BINARIES)/luksrd-audit)
 	@test -f "$(AUDIT)" -a -x "$(AUDIT)" || { echo "luksrd-audit is not built: run make first" >&2; exit 1; }
-	install -d "$(BINARIES)" "$(PAGES)" "$(BASH_COMPLETIONS)" "$(ZSH_COMPLETIONS)"
+	install -d "$(BINARIES)" "$(PAGES)" "$(BASH_COMPLETIONS)" "$(ZSH_COMPLETIONS)" "$(AUDIT_DATA)"
 	install -m 755 "$(AUDIT)" "$(BINARIES)/luksrd-audit"
 	install -m 644 docs/luksrd-audit.1 "$(PAGES)/luksrd-audit.1"
+	install -m 644 docs/luksrd-audit.schema.json "$(AUDIT_DATA)/luksrd-audit.schema.json"
 	install -m 644 completions/luksrd-audit.bash "$(BASH_COMPLETIONS)/luksrd-audit"
 	install -m 644 completions/_luksrd-audit "$(ZSH_COMPLETIONS)/_luksrd-audit"
 
@@ -135,6 +136,7 @@ INSTALLED = "$(BINARIES)/luksrd" "$(PAGES)/luksrd.1" \
     "$(BASH_COMPLETIONS)/luksrd" "$(ZSH_COMPLETIONS)/_luksrd" \
     "$(BINARIES)/luksrd-audit" "$(PAGES)/luksrd-audit.1" \
     "$(BASH_COMPLETIONS)/luksrd-audit" "$(ZSH_COMPLETIONS)/_luksrd-audit" \
+    "$(AUDIT_DATA)/luksrd-audit.schema.json" \
     "$(HEADERS)/luksrd.h" "$(LIBRARIES)/libluksrd.a" $(SHARED_NAMES:%="$(LIBRARIES)/%") \
     "$(LIBRARIES)/pkgconfig/luksrd.pc" \
     "$(LIBRARY_PAGES)/luksrd.3" "$(LIBRARY_PAGES)"/luksrd_*.3 \
@@ -154,7 +156,7 @@ uninstall:
 	        { echo "rm $$file"; rm "$$file" || exit; }; \
 	done
 	@for folder in "$(DOCUMENTS)/docs" "$(DOCUMENTS)" "$(LIBRARIES)/$(HWCAPS)" "$(LIBRARIES)/glibc-hwcaps" \
-	    "$(RESCUE_FOLDER)/__pycache__" "$(RESCUE_FOLDER)" "$(DESTDIR)$(MODULES)/__pycache__"; do \
+	    "$(AUDIT_DATA)" "$(RESCUE_FOLDER)/__pycache__" "$(RESCUE_FOLDER)" "$(DESTDIR)$(MODULES)/__pycache__"; do \
 	    [ ! -d "$$folder" ] || rmdir --ignore-fail-on-non-empty "$$folder"; \
 	done
 	@$(note_library)

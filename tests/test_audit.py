@@ -2,6 +2,7 @@
 what it calls weak; its search for headers; and the recipes of docs/AUDIT.md and its man page.
 
 What is judged (findings, weak, and whether luksrd can try a slot) cryptsetup does not report."""
+import copy
 import json
 import os
 import re
@@ -9,6 +10,7 @@ import resource
 import struct
 
 import documents
+import jsonschema
 import pytest
 from documents import SHELLS, Cook, commands_in, document, example
 from kinds import each_kind
@@ -19,6 +21,7 @@ from volumes import copy_of, cryptsetup, edit_metadata, overwrite, passphrases, 
 
 PAGE = TOP / "docs/luksrd-audit.1"
 GUIDE = TOP / "docs/AUDIT.md"
+SCHEMA = jsonschema.Draft202012Validator(json.loads((TOP / "docs/luksrd-audit.schema.json").read_text()))
 HASHES = ["sha1", "sha224", "sha256", "sha384", "sha512", "ripemd160"]
 JUDGED = ("file", "findings", "weak")
 JUDGED_OF_SLOT = ("state", "reason", "can_try")
@@ -52,7 +55,29 @@ def listed(audit, line, *arguments, status=1, **how):
     they are weak."""
     ended = audit(line, *arguments, **how)
     assert (ended.status, ended.message) == (status, "")
-    return [json.loads(text) for text in ended.output.splitlines()]
+    found = [json.loads(text) for text in ended.output.splitlines()]
+    for each in found:
+        SCHEMA.validate(each)
+    return found
+
+
+@pytest.mark.parametrize("part", ["", "slots", "digests", "tokens", "weak", "error"])
+def test_schema(audit, here, part):
+    """It refuses a line with a member renamed, left out or added."""
+    edit_metadata(here / "several", lambda tree: tree["tokens"].update({"7": {"type": "mine", "keyslots": ["0"]}}))
+    [found] = listed(audit, "empty" if part == "error" else "several")
+
+    def is_refused(change):
+        changed = copy.deepcopy(found)
+        change(changed[part][0] if part in changed and part != "error" else changed)
+        return not SCHEMA.is_valid(changed)
+
+    names = list(found[part][0] if part in found and part != "error" else found)
+    assert names
+    for name in names:
+        assert is_refused(lambda owner: owner.pop(name))
+        assert is_refused(lambda owner: owner.update({f"{name}_": owner.pop(name)}))
+    assert is_refused(lambda owner: owner.update(added=None))
 
 
 def members(found, *names):
@@ -438,9 +463,17 @@ LUKS1
 
 def test_search_with_limits(shell, here, many):
     many.rename(here / "suspect.img")
-    assert shell(commands("What a hostile image costs", "Recipes")).status == 1
+    assert shell(commands("What a hostile image costs", "One partition")).status == 1
     [found] = map(json.loads, (here / "headers").read_text().splitlines())
     assert found["offset"] == 32768
+
+
+@needs("partx", "sfdisk")
+def test_one_partition(shell, audit, disk):
+    [alone] = listed(audit, "sha1")
+    starts, line = shell(commands("One partition", "Recipes")).output.decode().split("{", 1)
+    assert [row.split() for row in starts.splitlines()] == [["1", "2048"], ["2", "40960"]]
+    assert json.loads("{" + line) == {**alone, "file": "-"}
 
 
 @needs("jq")

@@ -24,6 +24,7 @@ PROGRAM_FILES = {
 AUDIT_FILES = {
     "bin/luksrd-audit": None,
     "share/bash-completion/completions/luksrd-audit": "completions/luksrd-audit.bash",
+    "share/luksrd-audit/luksrd-audit.schema.json": "docs/luksrd-audit.schema.json",
     "share/man/man1/luksrd-audit.1": "docs/luksrd-audit.1",
     "share/zsh/site-functions/_luksrd-audit": "completions/_luksrd-audit",
 }

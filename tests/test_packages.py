@@ -37,7 +37,7 @@ FILES = {
                              "usr/share/man/man1/nbdkit-luksrd-plugin.1.gz"],
     "luksrd-audit": ["-rwxr-xr-x usr/bin/luksrd-audit", "usr/share/bash-completion/completions/luksrd-audit",
                      "usr/share/doc/luksrd-audit/AUDIT.md.gz", "usr/share/lintian/overrides/luksrd-audit",
-                     "usr/share/man/man1/luksrd-audit.1.gz", "usr/share/zsh/vendor-completions/_luksrd-audit"],
+                     "usr/share/luksrd-audit/luksrd-audit.schema.json", "usr/share/man/man1/luksrd-audit.1.gz", "usr/share/zsh/vendor-completions/_luksrd-audit"],
 }
 OF_PYTHON = ["python3-luksrd", "luksrd-rescue"]
 DEPENDS = [
