@@ -251,6 +251,14 @@ def test_output_that_cannot_be_written(audit, here):
     assert run("sh", "-c", 'exec "$0" several >&-', audit.path, cwd=here) == failed
 
 
+def test_closed_input(audit, here):
+    """It is no image, and the next one follows."""
+    ended = run("sh", "-c", 'exec "$0" - sha1 <&-', audit.path, cwd=here)
+    found = [json.loads(line) for line in ended.output.splitlines()]
+    assert (ended.status, ended.message) == (4, "")
+    assert members(found, "file", "error", "version") == [["-", "cannot be opened", None], ["sha1", None, 1]]
+
+
 @pytest.fixture
 def target(here):
     """An image that the output goes to, which stays as it is."""

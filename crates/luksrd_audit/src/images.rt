@@ -16,13 +16,19 @@ pub type HostImage = Input<File, File, Stdin>;
 #[derive(Drop)]
 pub struct HostImages<'r> {
     rt: &'r HostRuntime,
+    has_input: bool,
     failures: u64,
 }
 
 impl<'r> HostImages<'r> {
-    /// The images of this system.
-    pub fn new(rt: &'r HostRuntime) -> HostImages<'r> {
-        HostImages { rt, failures: 0 }
+    /// The images of this system, and whether standard input is one: it is not if it was closed
+    /// when the program started.
+    pub fn new(rt: &'r HostRuntime, has_input: bool) -> HostImages<'r> {
+        HostImages {
+            rt,
+            has_input,
+            failures: 0,
+        }
     }
 }
 
@@ -36,7 +42,7 @@ impl<'r> Images for HostImages<'r> {
     ghost failures = { λ host. host.failures };
 
     fn open(&mut self, name: &str) -> Result<CountedSource<ReadSource<HostImage>>, ImageFault> {
-        let source = ReadSource::new(open_image(self.rt, name)?);
+        let source = ReadSource::new(open_image(self.rt, self.has_input, name)?);
         Ok(CountedSource::new(source))
     }
 
@@ -48,8 +54,9 @@ impl<'r> Images for HostImages<'r> {
 }
 
 /// Opens the image of this name, unless standard output writes to it.
-fn open_image(rt: &HostRuntime, name: &str) -> Result<HostImage, ImageFault> {
+fn open_image(rt: &HostRuntime, has_input: bool, name: &str) -> Result<HostImage, ImageFault> {
     match open_input(rt, rt.alloc(), name) {
+        Ok(OpenedInput::Standard) if !has_input => Err(ImageFault::NotOpened),
         Ok(OpenedInput::Standard) => Ok(Input::Standard(rt.stdin())),
         Ok(OpenedInput::Buffered(file) | OpenedInput::AsRequested(file)) => Ok(Input::Stream(file)),
         Err(InputFault::NotOpened) => Err(ImageFault::NotOpened),

@@ -18,7 +18,9 @@ use luks_host::output::{RawFlush, RetryingWriter};
 use luks_io::adapters::WriteSink;
 use std::alloc::AllocError;
 use std::env;
+use std::fs::File;
 use std::io::{BufWriter, ErrorKind};
+use std::os::fd::AsRawFd;
 use std::process::ExitCode;
 
 /// The capacity in bytes of the buffer for the output.
@@ -28,7 +30,8 @@ const BUFFER: usize = 65536;
 const USAGE: u8 = 2;
 
 fn main(rt: HostRuntime) -> ExitCode {
-    let _stand_ins = stand_ins(&rt);
+    let stand_ins = stand_ins(&rt);
+    let has_input = !stands_in_for_input(&stand_ins);
     let args = match env::args(&rt) {
         Ok(args) => args,
         Err(e) if e.kind() == ErrorKind::OutOfMemory => return end(&rt, Ending::OutOfMemory),
@@ -37,24 +40,36 @@ fn main(rt: HostRuntime) -> ExitCode {
     let Ok(words) = args.skip(1).collect::<Vec<String>>(rt.alloc()) else {
         return end(&rt, Ending::OutOfMemory);
     };
-    obey(&rt, words.as_slice())
+    obey(&rt, has_input, words.as_slice())
+}
+
+/// Whether one of the stand-ins has the descriptor of standard input, which then was closed.
+fn stands_in_for_input(stand_ins: &[Option<File>]) -> bool {
+    for stand_in in stand_ins {
+        if let Some(file) = stand_in {
+            if file.as_raw_fd() == 0 {
+                return true;
+            }
+        }
+    }
+    false
 }
 
 /// Does what these arguments request.
-fn obey(rt: &HostRuntime, words: &[String]) -> ExitCode {
+fn obey(rt: &HostRuntime, has_input: bool, words: &[String]) -> ExitCode {
     let Ok(command) = command(rt.alloc()) else {
         return end(rt, Ending::OutOfMemory);
     };
     match command.try_get_matches_from(words) {
-        Ok(matches) => audit_requested(rt, &matches),
+        Ok(matches) => audit_requested(rt, has_input, &matches),
         Err(error) => show(rt, &error),
     }
 }
 
 /// Audits the images that parsed arguments name.
-fn audit_requested(rt: &HostRuntime, matches: &ArgMatches<'_>) -> ExitCode {
+fn audit_requested(rt: &HostRuntime, has_input: bool, matches: &ArgMatches<'_>) -> ExitCode {
     match request_in(matches) {
-        Some(request) => audit(rt, &request),
+        Some(request) => audit(rt, has_input, &request),
         None => misused(rt, "standard input is named twice"),
     }
 }
@@ -81,7 +96,7 @@ fn is_overwritten(rt: &HostRuntime, images: &[&str]) -> Result<bool, AllocError>
 }
 
 /// Audits the requested images, unless the output would go into one of them.
-fn audit(rt: &HostRuntime, request: &Request<'_, '_>) -> ExitCode {
+fn audit(rt: &HostRuntime, has_input: bool, request: &Request<'_, '_>) -> ExitCode {
     match is_overwritten(rt, request.files) {
         Ok(false) => {}
         Ok(true) => {
@@ -95,7 +110,7 @@ fn audit(rt: &HostRuntime, request: &Request<'_, '_>) -> ExitCode {
         return end(rt, Ending::OutOfMemory);
     };
     let mut out = WriteSink::new(writer);
-    let mut host = HostImages::new(rt);
+    let mut host = HostImages::new(rt, has_input);
     let ending = run(
         rt.alloc(),
         request.policy,
