@@ -449,13 +449,16 @@ def commands(first, last):
     return "\n".join(re.findall(r"^    (.*)$", section, re.M))
 
 
-@needs("jq")
+@needs("jq", "column")
 def test_recipes(shell):
     ended = shell(commands("Recipes", "What is proved"))
     said = re.sub(r'^\{.*"version":1,.*', "LUKS1", ended.output.decode(), flags=re.M)
     assert said == f"""\
 images/a.img\t1\t-\t{', '.join(WEAK_SHA1)}
 images/b.img\t2\t-\t{', '.join(WEAK_SEVERAL)}
+image         version  cipher           key  weak  findings
+images/a.img  1        aes-xts-plain64  64   {len(WEAK_SHA1)}     0
+images/b.img  2        aes-xts-plain64  64   {len(WEAK_SEVERAL)}     1
 ["images/a.img",0,1000]
 ["images/a.img",5,1300]
 ["images/b.img",0,1000]
