@@ -71,7 +71,6 @@ fn describe_usable(alloc: Global, parts: &SlotParts) -> Result<String, AllocErro
 {
     let priority = parts.priority;
     let kdf = kdf_text(alloc, parts.derivation)?;
-    let kdf = kdf.as_str();
     let offset = parts.area_offset;
     let size = parts.area_size;
     let mut text = format!(in alloc; "USABLE priority={priority} kdf={kdf}")?;
@@ -85,12 +84,21 @@ fn kdf_text(alloc: Global, derivation: Derivation) -> Result<String, AllocError>
     ensures { IfOk result (λ text. string_bytes text ≡ kdf_text derivation) }
 {
     match derivation {
-        Derivation::Pbkdf2(hash, iterations) => {
-            let hash = hash_text(hash);
-            format!(in alloc; "pbkdf2 hash={hash} iterations={iterations}")
-        }
+        Derivation::Pbkdf2(hash, iterations) => pbkdf2_text(alloc, hash, iterations),
         Derivation::Argon2(parameters) => argon2_text(alloc, parameters),
     }
+}
+
+// How PBKDF2 derives the key of a slot.
+#[tactic(auto, unfolding(crate::specs::Dump2::kdf_text))]
+fn pbkdf2_text(alloc: Global, hash: Option<Hash>, iterations: u64) -> Result<String, AllocError>
+    ensures { IfOk result (λ text.
+        string_bytes text ≡ kdf_text (Derivation.Pbkdf2 hash iterations)) }
+{
+    let hash = hash_text(hash);
+    let mut text = format!(in alloc; "pbkdf2 hash={hash}")?;
+    write!(text, " iterations={iterations}")?;
+    Ok(text)
 }
 
 // How Argon2 derives the key of a slot.
@@ -102,7 +110,9 @@ fn argon2_text(alloc: Global, parameters: Argon2Parameters) -> Result<String, Al
     let passes = parameters.passes;
     let memory_kib = parameters.memory_kib;
     let lanes = parameters.lanes;
-    format!(in alloc; "{variant} time={passes} memory={memory_kib} cpus={lanes}")
+    let mut text = format!(in alloc; "{variant} time={passes}")?;
+    write!(text, " memory={memory_kib} cpus={lanes}")?;
+    Ok(text)
 }
 
 // The name of a variant of Argon2.
