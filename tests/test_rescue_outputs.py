@@ -49,14 +49,11 @@ def test_output_is_an_input(rescue, disk2, how):
 @pytest.mark.of_script
 @pytest.mark.parametrize("output, text", [
     ("folder", "is a folder"), ("no/such", "there is no such folder"), ("fifo", "is neither a file nor a block device"),
-    ("dangling", "is a link to a file that is not there"), ("/dev/full", "is neither a file nor a block device"),
-    ("a\0b", "usage")])
+    ("dangling", "is a link to a file that is not there"), ("/dev/full", "is neither a file nor a block device")])
 def test_output_that_cannot_be(rescue, disk1, output, text):
     (rescue.folder / "folder").mkdir()
     os.mkfifo(rescue.folder / "fifo")
     os.symlink("nowhere", rescue.folder / "dangling")
-    if "\0" in output:
-        pytest.skip("no argument has a zero byte")
     says(rescue("decrypt", disk1, "--key-file", "pass", "-o", output, "--force"), text, status=1)
 
 
