@@ -79,6 +79,7 @@ fn image(rt: &(impl Abort + AllocGlobal)) -> Vec<u8> {
     image.resize(65_536, 0).expect(rt, "memory");
     for i in 0..AREAS.len() {
         let start = 32_768 + 512 * i;
+        assert!(rt; start + 64 <= image.len());
         decode_to_slice(AREAS[i], &mut image[start..start + 64]).expect(rt, "an area");
     }
     image
