@@ -5,6 +5,9 @@
 //! package cryptography (AES in its mode XTS).
 
 use hex::decode_to_slice;
+use luks_access::options::Options;
+use luks_access::volume::Volume;
+use luks_access::{HeaderLocation, SlotChoice, VolumeFault};
 use luks_argon2_slots::with_argon2::WithArgon2;
 use luks_header::area::HeaderArea;
 use luks_header::derivation::{Argon2Limits, Limits};
@@ -214,6 +217,50 @@ fn each_passphrase_opens_its_slot(rt: HostRuntime) {
             opens && counts == [*evaluations, *blocks],
             "{slot:?}: {counts:?}"
         );
+    }
+}
+
+// A passphrase, what Argon2 may cost, and the slot that the library opens. Without Argon2 it opens
+// slot 2 alone, as luksCat does.
+static VOLUMES: [(&[u8], Option<(u32, u64)>, Option<u8>); 8] = [
+    (b"first", Some((96, 225)), Some(0)),
+    (b"second", Some((96, 225)), Some(1)),
+    (b"third", Some((96, 225)), Some(2)),
+    (b"fourth", Some((96, 225)), Some(3)),
+    (b"second", Some((74, 225)), None),
+    (b"fourth", Some((96, 191)), None),
+    (b"third", None, Some(2)),
+    (b"fourth", None, None),
+];
+
+#[test]
+fn the_library_opens_volumes_within_the_limits(rt: HostRuntime) {
+    let image = image(&rt);
+    let mut key = [0u8; 32];
+    decode_to_slice(KEY, &mut key).expect(&rt, "a key");
+    for (pass, limits, slot) in &VOLUMES {
+        let limits = match limits {
+            Some((memory_kib, fill_kib)) => within(*memory_kib, *fill_kib),
+            None => Limits::without_argon2(None),
+        };
+        let options = Options {
+            location: HeaderLocation::Attached,
+            slots: SlotChoice {
+                named: None,
+                max_iterations: None,
+            },
+            argon2: limits.argon2,
+        };
+        let mut source = MemSource::new(&image);
+        let opens = match (
+            Volume::open_from(rt.alloc(), &options, &mut source, pass),
+            slot,
+        ) {
+            (Ok(volume), Some(slot)) => volume.slot() == *slot && volume.key() == key.as_slice(),
+            (Err(VolumeFault::Slots(OpenFault::NoKey(_))), None) => true,
+            _ => false,
+        };
+        assert!(rt; opens, "{slot:?}, {limits:?}");
     }
 }
 
