@@ -1,24 +1,19 @@
-//! A volume of LUKS2 with slots of Argon2: which are tried within which limits, which slot each
-//! passphrase opens, and how many blocks that fills.
+//! A volume of LUKS2 with slots of Argon2: which are tried within which limits.
 //!
 //! Derived keys are by the program `argon2` and Python's hashlib, key material by hashlib and the
 //! package cryptography (AES in its mode XTS).
 
 use hex::decode_to_slice;
-use luks_argon2_slots::with_argon2::WithArgon2;
 use luks_header::area::HeaderArea;
 use luks_header::derivation::{Argon2Limits, Limits};
 use luks_header::header::{Header, read_header};
 use luks_header::payload::segment;
 use luks_header::refusal::SkipReason;
 use luks_io::memory::MemSource;
-use luks_kdf::Work;
 use luks_key_slots::fault::OpenFault;
-use luks_key_slots::opening::{Opened, open_by};
 use luks_key_slots::order::{Order, key_material_end};
 use luks_key_slots::ordering::{order, order_within};
 use luks_test_support::header2::image_of;
-use luks_test_support::scarce::Scarcity;
 use std::process::Abort;
 
 // | Slot | Derived by | Passes | KiB | Lanes | Priority | Passphrase |
@@ -69,8 +64,6 @@ static AREAS: [&str; 4] = [
     "801d7f870b201a4e73b04906453de53ff00832934d4d1f7ad5743d9b0903d04b\
      92d759c142422f1a779bcf3c97d37460fda8adcd55416c51e97904f18516eec7",
 ];
-
-const KEY: &str = "22e46475321af7d4b697c0766f0650c2884d4b8c45d9ee542ecddacbd8982d90";
 
 fn image(rt: &(impl Abort + AllocGlobal)) -> Vec<u8> {
     let text = PARTS.concat(rt.alloc()).expect(rt, "memory");
@@ -173,78 +166,4 @@ fn the_order_without_argon2_is_that_of_pbkdf2_alone(rt: HostRuntime) {
     let order = order(rt.alloc(), &header, None, None).expect(&rt, "an order");
     let entries = order.entries();
     assert!(rt; entries.len() == 1 && entries[0].number == 2);
-}
-
-fn is_key(rt: &(impl Abort + AllocGlobal), opened: &Opened) -> bool {
-    let mut key = [0u8; 32];
-    decode_to_slice(KEY, &mut key).expect(rt, "a key");
-    opened.key.as_slice() == key.as_slice()
-}
-
-// A passphrase, a named slot, the slot that opens, the evaluations of HMAC and the filled blocks.
-// The digest takes 3 evaluations for each slot, slot 2 takes 5 more. Slot 3 fills 192 blocks, slot 0
-// 32, and slot 1 216.
-static OPENINGS: [(&[u8], Option<u8>, Option<u8>, u128, u128); 8] = [
-    (b"fourth", None, Some(3), 3, 192),
-    (b"first", None, Some(0), 6, 224),
-    (b"second", None, Some(1), 9, 440),
-    (b"third", None, Some(2), 17, 440),
-    (b"fifth", None, None, 17, 440),
-    (b"second", Some(1), Some(1), 3, 216),
-    (b"second", Some(0), None, 3, 32),
-    (b"third", Some(2), Some(2), 8, 0),
-];
-
-#[test]
-fn each_passphrase_opens_its_slot(rt: HostRuntime) {
-    let image = image(&rt);
-    let limits = within(u32::MAX, u64::MAX);
-    for (pass, named, slot, evaluations, blocks) in &OPENINGS {
-        let (header, area, order) = read_order(&rt, &image, *named, limits);
-        let mut work = Work::new(0);
-        let mut derive = WithArgon2::new(rt.alloc());
-        let answer = open_by(&mut derive, &header, &area, &order, pass, &mut work);
-        let opening = answer.ok().expect(&rt, "memory");
-        let opens = match (&opening, slot) {
-            (Ok(opened), Some(slot)) => opened.slot == *slot && is_key(&rt, opened),
-            (Err(OpenFault::NoKey(skipped)), None) => skipped.as_slice().is_empty(),
-            _ => false,
-        };
-        let counts = [work.count(), derive.filled_blocks()];
-        assert!(rt;
-            opens && counts == [*evaluations, *blocks],
-            "{slot:?}: {counts:?}"
-        );
-    }
-}
-
-// The memory of one passphrase serves for the next, and what was counted stays.
-#[test]
-fn several_passphrases_share_one_memory(rt: HostRuntime) {
-    let image = image(&rt);
-    let (header, area, order) = read_order(&rt, &image, Some(3), within(96, 192));
-    let mut work = Work::new(0);
-    let mut derive = WithArgon2::new(rt.alloc());
-    for pass in [b"x".as_slice(), b"fourth", b"y", b"fourth"] {
-        let answer = open_by(&mut derive, &header, &area, &order, pass, &mut work);
-        let opening = answer.ok().expect(&rt, "memory");
-        assert!(rt; opening.is_ok() == (pass == b"fourth".as_slice()));
-    }
-    assert!(rt; [work.count(), derive.filled_blocks()] == [12, 768]);
-}
-
-// Slot 3 comes first. Its memory is refused, and no other slot is tried.
-#[test]
-fn refused_memory_ends_opening(rt: HostRuntime) {
-    let image = image(&rt);
-    let (header, area, order) = read_order(&rt, &image, None, within(96, 225));
-    let mut work = Work::new(0);
-    let mut derive = WithArgon2::new(rt.alloc());
-    let answer = {
-        let _scarcity = Scarcity::new(rt.alloc(), 400, 1100).expect(&rt, "memory");
-        open_by(&mut derive, &header, &area, &order, b"first", &mut work)
-    };
-    let stop = answer.err().expect(&rt, "no memory");
-    assert!(rt; [u32::from(stop.slot), stop.fault.memory_kib] == [3, 96]);
-    assert!(rt; [work.count(), derive.filled_blocks()] == [0, 0]);
 }
