@@ -300,6 +300,6 @@ def test_progress(rescue, large):
     """On a terminal with rate and time left; --quiet shows nothing."""
     with Terminal(rescue, *COMMAND) as terminal:
         assert terminal.ended() == 0
-        assert re.search(rb"\d+%.*MB/s", terminal.shown) and rb"Traceback" not in terminal.shown
+        assert re.search(rb"\d+%.*[kMG]B/s", terminal.shown) and rb"Traceback" not in terminal.shown
     (rescue.folder / "plain").unlink()
     assert rescue(*COMMAND, "--quiet").message == ""
