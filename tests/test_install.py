@@ -27,8 +27,8 @@ AUDIT_FILES = {
     "share/zsh/site-functions/_luksrd-audit": "completions/_luksrd-audit",
 }
 VERSION = re.search(r"^VERSION := (\d+\.\d+\.\d+)$", (TOP / "Makefile").read_text(), re.MULTILINE)[1]
-FUNCTIONS = ("check_key decrypt ending finish len mode_name mode_of open plan prepare read status_text version wipe "
-             "wipe_stack").split()
+FUNCTIONS = ("check_key decrypt ending finish header_len len mode_name mode_of open open_by_key plan prepare read "
+             "status_text version wipe wipe_stack").split()
 LIBRARY_PAGES = ["luksrd.3", *[f"luksrd_{name}.3" for name in FUNCTIONS]]
 LIBRARY_FILES = ["include/luksrd.h", "lib/glibc-hwcaps/x86-64-v3/libluksrd.so.2", "lib/libluksrd.a", "lib/libluksrd.so",
                  "lib/libluksrd.so.2", f"lib/libluksrd.so.{VERSION}", "lib/pkgconfig/luksrd.pc",
