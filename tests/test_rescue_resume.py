@@ -300,6 +300,7 @@ def test_progress(rescue, large):
     """On a terminal with rate and time left; --quiet shows nothing."""
     with Terminal(rescue, *COMMAND) as terminal:
         assert terminal.ended() == 0
-        assert re.search(rb"\d+%.*[kMG]B/s", terminal.shown) and rb"Traceback" not in terminal.shown
+        # (what is done at once has no rate yet)
+        assert re.search(rb"\d+% .*\[\d+:\d+<(\?|\d+:\d+), .*B/s\]", terminal.shown) and rb"Traceback" not in terminal.shown
     (rescue.folder / "plain").unlink()
     assert rescue(*COMMAND, "--quiet").message == ""
