@@ -7,9 +7,9 @@
 # make test       what CI runs: the gate, which proves everything, tries each must-fail edit and runs the tests of the
 #                 crates; then `make check`; it prints the processor time that each crate took
 # make pages      writes the pages that are made from the sources, and the tables of docs/SPEED.md from docs/speed/
-# make bench      measures key derivation, decryption and whole volumes beside other implementations, and memory; keeps
-#                 the results in docs/speed/MACHINE.json (the name of the host if MACHINE is not given). ROUNDS is the
-#                 number of rounds; with AS_BUILT=1 it builds nothing
+# make bench      measures key derivation, decryption and whole volumes beside other implementations, and memory, with
+#                 both builds; keeps the results in docs/speed/MACHINE.json (the name of the host if MACHINE is not
+#                 given). ROUNDS is the number of rounds; with AS_BUILT=1 it builds nothing
 # make library    builds the library for C: out/libluksrd.a, out/libluksrd.so and out/luksrd.pc, and the same for
 #                 x86-64-v3 in out/glibc-hwcaps, which the loader takes if the processor can run it
 # make nbdkit     builds the plugin and the filter for the installed version of nbdkit, out/nbdkit-luksrd-plugin.so and
@@ -73,7 +73,7 @@ BASH_COMPLETIONS = $(DESTDIR)$(PREFIX)/share/bash-completion/completions
 ZSH_COMPLETIONS = $(DESTDIR)$(ZSH_FUNCTIONS)
 # README.md and what a user reads of what it leads to; packaging/documents installs them
 GUIDES := README.md $(patsubst %,docs/%.md,AUDIT FORMATS GLOSSARY LIBRARY MIGRATION PROGRAMMERS PROOFS RECIPES RESCUE \
-    SECURITY SPEED) docs/growth.svg
+    SECURITY SPEED)
 # Debian's packages have libraries in another folder below PREFIX
 LIBDIR ?= $(PREFIX)/lib
 LIBRARIES = $(DESTDIR)$(LIBDIR)
@@ -189,7 +189,7 @@ toolchain:
 JOBS ?= $(shell nproc)
 run_tests = tests/packages && /usr/bin/python3 -m pytest tests -n $(JOBS)
 
-check: $(PROGRAM_V2) $(PROGRAM_V3) $(AUDIT) $(TOOLS_V2) library nbdkit
+check: $(PROGRAM_V2) $(PROGRAM_V3) $(AUDIT) $(TOOLS_V2) $(TOOLS_V3) library nbdkit
 	$(run_tests)
 
 # The gate builds what is for x86-64-v2; tests/built lets the rest be built over what it has proved. What failed of both
@@ -198,7 +198,7 @@ test: export CI := true
 test: toolchain
 	@rm -f $(PROGRAM_V2) $(AUDIT) $(TOOLS_V2) && mkdir -p out
 	@{ tests/times rt ci 2>&1; echo $$? >out/gate.status; } | tee out/gate.log
-	@tests/built; $(MAKE) -k $(PROGRAM_V3) library nbdkit; { $(run_tests); }; tests=$$?; gate=$$(cat out/gate.status); \
+	@tests/built; $(MAKE) -k $(PROGRAM_V3) $(TOOLS_V3) library nbdkit; { $(run_tests); }; tests=$$?; gate=$$(cat out/gate.status); \
 	    grep -E '^rt: .*(FAILED|NOT PROVED)' out/gate.log; grep -xE '[0-9]+ passed, [0-9]+ failed' out/gate.log | tail -n 1; \
 	    exit $$((gate ? gate : tests))
 
@@ -207,16 +207,16 @@ pages:
 	docs/contracts
 	bench/page
 
-# What the measurements need, before the first of them begins. MACHINE and AS_BUILT reach them by the environment.
-BENCH_TOOLS := cryptsetup valgrind python3 cc openssl /usr/bin/time qemu-img nbdkit nbdcopy grub-fstest gnuplot
+# What the measurements need, before the first of them begins. MACHINE reaches them by the environment.
+BENCH_TOOLS := hyperfine cryptsetup valgrind python3 cc openssl /usr/bin/time qemu-img nbdkit nbdcopy grub-fstest
 
 bench: export MACHINE ?= $(shell uname -n)
-bench: $(if $(AS_BUILT),,all)
+bench: $(if $(AS_BUILT),,all $(PROGRAM_V3) $(TOOLS_V2) $(TOOLS_V3) library nbdkit)
 	@for tool in $(BENCH_TOOLS); do \
 	    command -v $$tool >/dev/null || { echo "$$tool is missing: CONTRIBUTING.md lists the packages" >&2; exit 1; }; \
 	done
-	for it in instructions reads memory; do bench/$$it || exit; done
-	for it in pbkdf2 xts volume nbd search plot; do bench/$$it $(ROUNDS) || exit; done
+	bench/measure $(ROUNDS)
+	bench/reads
 	bench/page
 
 include packaging/install.mk

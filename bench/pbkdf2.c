@@ -1,13 +1,11 @@
-/* PBKDF2 with HMAC-SHA1, HMAC-SHA256 and HMAC-SHA512 in plain C, to be timed beside luks_kdf:
+/* PBKDF2 with HMAC-SHA1, HMAC-SHA256 and HMAC-SHA512 in plain C, a yardstick of bench/measure:
  * `pbkdf2 sha256 100000 64` derives a key of 64 bytes with 100000 iterations, its blocks one after the
- * other, with both padded key blocks hashed once, and writes the evaluations of HMAC, the nanoseconds
- * of processor time and the key.
+ * other, with both padded key blocks hashed once, and writes the key.
  */
 #include <stdint.h>
 #include <stdio.h>
 #include <stdlib.h>
 #include <string.h>
-#include <time.h>
 
 typedef uint32_t u32;
 typedef uint64_t u64;
@@ -113,7 +111,7 @@ typedef const unsigned char *bytes;
 /* The words of the one block that the message has after the key block: at most eight words, then the padding. */
 #define DERIVE(T, WORDS, H, compress)                                                          \
     T inner[8], outer[8], key[16] = {0}, pad[16], u[8], xor[8], block[16];                     \
-    unsigned size = sizeof(T), evaluations = 0;                                                \
+    unsigned size = sizeof(T);                                                                 \
     for (unsigned i = 0; i < pass_len; i++) key[i / size] |= (T)pass[i] << 8 * (size - 1 - i % size); \
     for (int i = 0; i < 16; i++) pad[i] = key[i] ^ (T)0x3636363636363636;                      \
     memcpy(inner, H, sizeof(T) * WORDS);                                                       \
@@ -141,13 +139,13 @@ typedef const unsigned char *bytes;
             memcpy(block, u, sizeof(T) * WORDS);                                               \
             for (int i = 0; i < WORDS; i++) xor[i] ^= u[i];                                    \
         }                                                                                      \
-        evaluations += iterations;                                                             \
         for (unsigned i = 0; i < WORDS * size && start + i < length; i++)                      \
             out[start + i] = (unsigned char)(xor[i / size] >> 8 * (size - 1 - i % size));      \
-    }                                                                                          \
-    return evaluations;
+    }
 
-#define FUNCTION(name) static unsigned name(bytes pass, unsigned pass_len, bytes salt, unsigned salt_len, u32 iterations, unsigned char *out, unsigned length)
+#define FUNCTION(name)                                                                         \
+    static void name(bytes pass, unsigned pass_len, bytes salt, unsigned salt_len, u32 iterations, unsigned char *out, \
+                     unsigned length)
 
 FUNCTION(derive1) { DERIVE(u32, 5, H1, compress1) }
 FUNCTION(derive256) { DERIVE(u32, 8, H256, compress256) }
@@ -157,19 +155,14 @@ int main(int argc, char **argv) {
     if (argc != 4) return 1;
     fill_constants();
     u32 iterations = (u32)strtoul(argv[2], 0, 10);
-    unsigned length = (unsigned)strtoul(argv[3], 0, 10), evaluations;
+    unsigned length = (unsigned)strtoul(argv[3], 0, 10);
     bytes pass = (bytes) "passphrase", salt = (bytes) "0123456789abcdef";
     unsigned char key[512];
-    struct timespec start, end;
     if (length > sizeof key) return 1;
-    clock_gettime(CLOCK_PROCESS_CPUTIME_ID, &start);
-    if (!strcmp(argv[1], "sha1")) evaluations = derive1(pass, 10, salt, 16, iterations, key, length);
-    else if (!strcmp(argv[1], "sha256")) evaluations = derive256(pass, 10, salt, 16, iterations, key, length);
-    else if (!strcmp(argv[1], "sha512")) evaluations = derive512(pass, 10, salt, 16, iterations, key, length);
+    if (!strcmp(argv[1], "sha1")) derive1(pass, 10, salt, 16, iterations, key, length);
+    else if (!strcmp(argv[1], "sha256")) derive256(pass, 10, salt, 16, iterations, key, length);
+    else if (!strcmp(argv[1], "sha512")) derive512(pass, 10, salt, 16, iterations, key, length);
     else return 1;
-    clock_gettime(CLOCK_PROCESS_CPUTIME_ID, &end);
-    long long nanos = (end.tv_sec - start.tv_sec) * 1000000000LL + (end.tv_nsec - start.tv_nsec);
-    printf("%u %lld ", evaluations, nanos);
     for (unsigned i = 0; i < length; i++) printf("%02x", key[i]);
     printf("\n");
     return 0;

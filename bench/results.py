@@ -1,42 +1,49 @@
-"""The results of measurements: a file for each machine, docs/speed/MACHINE.json, of which bench/page makes the tables
-of docs/SPEED.md.
+"""The results of measurements: a file for each machine, docs/speed/MACHINE.json.
 
-Each measurement keeps its last run there: date, version of luksrd, the load that other work was, the number of rounds,
-the method, and the figures by their names. A figure is a number, or a list of the median and the best of the rounds.
-Files of machines that were measured before there were such files also have null for a number that was not noted, lists
-of several runs, and texts. MACHINE in the environment names the machine; without it nothing is kept."""
+Such a file describes the machine, and has the last run of each table: its date, the version of luksrd, the load that
+other work was, the rounds (null if instructions or memory were counted, once), and its rows. A row has a figure for
+each of its columns: a number, or the median and the best of the rounds. MACHINE in the environment names the machine;
+without it nothing is kept."""
 
 import json
 import os
+import pathlib
 import re
-import statistics
 import sys
 import time
 
-import machine
-from measure import TOP
-
+TOP = pathlib.Path(__file__).resolve().parents[1]
 FOLDER = TOP / "docs" / "speed"
+# The processor's features by which OpenSSL and others choose their code for AES and SHA, and `hypervisor`, which a
+# virtual machine has.
+FLAGS = ("aes", "avx2", "avx512f", "hypervisor", "sha_ni", "ssse3", "vaes")
 
 
-def spread(values, best=min):
-    """The median and the best of the rounds."""
-    return statistics.median(values), best(values)
+def machine():
+    """The machine, as the results describe it."""
+    lines = pathlib.Path("/proc/cpuinfo").read_text().split("\n\n")[0].splitlines()
+    fields = {name.strip(): value.strip() for name, _, value in (line.partition(":") for line in lines)}
+    return {
+        "processor": f"{fields['model name']}, family {fields['cpu family']}, model {fields['model']}",
+        "flags": [flag for flag in FLAGS if flag in fields["flags"].split()],
+        "cores": os.cpu_count(),
+    }
 
 
-def ratios(dividends, divisors, best=min):
-    """The quotient of the medians, and that of the bests."""
-    return tuple(dividend / divisor for dividend, divisor in zip(spread(dividends, best), spread(divisors, best)))
+class Load:
+    """How many cores other work of this machine kept busy, and other machines took from it, from now on."""
 
+    def __init__(self):
+        self.before = self.now()
 
-def version():
-    return re.search(r"^VERSION := (\S+)", (TOP / "Makefile").read_text(), re.MULTILINE)[1]
+    def now(self):
+        fields = pathlib.Path("/proc/stat").read_text().splitlines()[0].split()
+        user, nice, system, _, _, irq, softirq, stolen = (int(it) / os.sysconf("SC_CLK_TCK") for it in fields[1:9])
+        return time.monotonic(), user + nice + system + irq + softirq - sum(os.times()[:4]), stolen
 
-
-def text_of(results):
-    """The text of a file: JSON, with each figure in a line of its own."""
-    text = json.dumps(results, indent=1)
-    return re.sub(r"\[\n[^][{}]*\]", lambda found: json.dumps(json.loads(found[0])), text) + "\n"
+    def text(self):
+        elapsed, others, stolen = (now - before for now, before in zip(self.now(), self.before))
+        return f"{max(0, others / elapsed):.2f} cores, {stolen / elapsed:.2f} stolen"
 
 
 def rounded(number):
@@ -52,37 +59,38 @@ def path_of_machine():
     if not re.fullmatch(r"\w[\w.-]*", name):
         sys.exit(f"MACHINE: {name} is no name of a file")
     path = FOLDER / f"{name}.json"
-    if path.exists() and json.loads(path.read_text())["machine"] != machine.description():
+    if path.exists() and json.loads(path.read_text())["machine"] != machine():
         sys.exit(f"{path.relative_to(TOP)} is of another machine: give this one another name, by MACHINE")
     return path
 
 
+def text_of(results):
+    """The text of a file: JSON, with each row in a line of its own."""
+    text = json.dumps(results, indent=1)
+    text = re.sub(r"\[\n[^][{}]*\]", lambda found: json.dumps(json.loads(found[0])), text)
+    return re.sub(r"(?<=\": )\{\n[^{}]*\}(?=,?\n {3,4}[\"}])", lambda found: json.dumps(json.loads(found[0])), text) + "\n"
+
+
 class Run:
-    """A run of a measurement."""
+    """A run of one table. What it notes is printed, and kept at the end."""
 
-    def __init__(self, name, method):
-        self.name, self.method, self.rounds = name, method, None
-        self.path, self.figures, self.load = path_of_machine(), {}, machine.Load()
+    def __init__(self, table, rounds=None):
+        self.table, self.rounds, self.load, self.rows = table, rounds, Load(), {}
+        self.path = path_of_machine()
 
-    def start(self, rounds=None):
-        """All is built, and the rounds begin."""
-        self.rounds, self.load = rounds, machine.Load()
-
-    def note(self, figure, *numbers):
-        """Keeps a figure, which is one number or several."""
+    def note(self, row, column, *numbers):
+        """Keeps a figure: a number, or the median and the best of the rounds."""
         kept = [rounded(number) for number in numbers]
-        self.figures[figure] = kept if len(kept) > 1 else kept[0]
-
-    def described(self):
-        return {"date": time.strftime("%Y-%m-%d"), "version": version(), "load": self.load.text(),
-                "rounds": self.rounds, "method": self.method, "figures": self.figures}
+        self.rows.setdefault(row, {})[column] = kept if len(kept) > 1 else kept[0]
+        print(f"{self.table}: {row}: {column}: {', '.join(map(str, kept))}", flush=True)
 
     def keep(self):
         """Puts the run in the place of the last one in the file of this machine."""
         if not self.path:
             return
         FOLDER.mkdir(exist_ok=True)
-        results = json.loads(self.path.read_text()) if self.path.exists() else {}
-        runs = results.get("runs", {})
-        runs[self.name] = self.described()
-        self.path.write_text(text_of({"machine": machine.description(), "runs": dict(sorted(runs.items()))}))
+        tables = json.loads(self.path.read_text())["tables"] if self.path.exists() else {}
+        version = re.search(r"^VERSION := (\S+)", (TOP / "Makefile").read_text(), re.MULTILINE)[1]
+        tables[self.table] = {"date": time.strftime("%Y-%m-%d"), "version": version, "load": self.load.text(),
+                              "rounds": self.rounds, "rows": self.rows}
+        self.path.write_text(text_of({"machine": machine(), "tables": dict(sorted(tables.items()))}))

@@ -1,15 +1,13 @@
-/* AES-256-XTS decryption by tables, the yardstick of bench/xts.
+/* AES-256-XTS decryption by four tables, a yardstick of bench/measure.
  *
- *     tables VARIANT BYTES COUNT
+ *     xts BYTES COUNT
  *
- * decrypts COUNT data units of BYTES bytes under the numbers from 0, and prints the number of bytes
- * and the nanoseconds that it took. VARIANT is `one` (one table of 256 words, and its rotations) or
- * `four` (four tables). The tables are computed from the field, and an example of IEEE 1619 is checked first. */
+ * decrypts COUNT data units of BYTES bytes under the numbers from 0. The tables are computed from the field, and an
+ * example of IEEE 1619 is checked first. */
 #include <stdint.h>
 #include <stdio.h>
 #include <stdlib.h>
 #include <string.h>
-#include <time.h>
 
 enum { ROUNDS = 14, WORDS = 4 * (ROUNDS + 1) };
 
@@ -87,8 +85,8 @@ static void expand_inverse(const uint8_t key[32], uint32_t w[WORDS]) {
 }
 
 /* A column from the four columns whose bytes it has, in the order of the rows. */
-#define MIXED(T, table, a, b, c, d) \
-    (T(table, 0, (a) & 255) ^ T(table, 1, (b) >> 8 & 255) ^ T(table, 2, (c) >> 16 & 255) ^ T(table, 3, (d) >> 24))
+#define MIXED(table, a, b, c, d) \
+    (table[0][(a) & 255] ^ table[1][(b) >> 8 & 255] ^ table[2][(c) >> 16 & 255] ^ table[3][(d) >> 24])
 #define LAST(box, a, b, c, d)                                                                  \
     ((uint32_t)box[(a) & 255] | (uint32_t)box[(b) >> 8 & 255] << 8 | (uint32_t)box[(c) >> 16 & 255] << 16 \
         | (uint32_t)box[(d) >> 24] << 24)
@@ -96,16 +94,16 @@ static void expand_inverse(const uint8_t key[32], uint32_t w[WORDS]) {
 static inline const uint32_t *forwards(const uint32_t *w, int round) { return w + 4 * round; }
 static inline const uint32_t *backwards(const uint32_t *w, int round) { return w + 4 * (ROUNDS - round); }
 
-#define CIPHER(name, table, box, T, round_key, X, Y)                                           \
+#define CIPHER(name, table, box, round_key, X, Y)                                              \
     static void name(const uint32_t *w, const uint32_t in[4], uint32_t out[4]) {               \
         const uint32_t *k = round_key(w, 0);                                                   \
         uint32_t s[4] = {in[0] ^ k[0], in[1] ^ k[1], in[2] ^ k[2], in[3] ^ k[3]}, t[4];        \
         for (int r = 1; r < ROUNDS; r++) {                                                     \
             k = round_key(w, r);                                                               \
-            t[0] = MIXED(T, table, s[0], s[X], s[2], s[Y]) ^ k[0];                             \
-            t[1] = MIXED(T, table, s[1], s[(1 + X) % 4], s[3], s[(1 + Y) % 4]) ^ k[1];         \
-            t[2] = MIXED(T, table, s[2], s[(2 + X) % 4], s[0], s[(2 + Y) % 4]) ^ k[2];         \
-            t[3] = MIXED(T, table, s[3], s[(3 + X) % 4], s[1], s[(3 + Y) % 4]) ^ k[3];         \
+            t[0] = MIXED(table, s[0], s[X], s[2], s[Y]) ^ k[0];                                \
+            t[1] = MIXED(table, s[1], s[(1 + X) % 4], s[3], s[(1 + Y) % 4]) ^ k[1];            \
+            t[2] = MIXED(table, s[2], s[(2 + X) % 4], s[0], s[(2 + Y) % 4]) ^ k[2];            \
+            t[3] = MIXED(table, s[3], s[(3 + X) % 4], s[1], s[(3 + Y) % 4]) ^ k[3];            \
             s[0] = t[0], s[1] = t[1], s[2] = t[2], s[3] = t[3];                                \
         }                                                                                      \
         k = round_key(w, ROUNDS);                                                              \
@@ -115,19 +113,11 @@ static inline const uint32_t *backwards(const uint32_t *w, int round) { return w
         out[3] = LAST(box, s[3], s[(3 + X) % 4], s[1], s[(3 + Y) % 4]) ^ k[3];                 \
     }
 
-/* T(table, n, b): entry b of table n, which is table 0 rotated by n bytes. */
-#define ONE(table, n, b) ((n) ? rotated_word(table[0][b], 8 * (n)) : table[0][b])
-#define FOUR(table, n, b) table[n][b]
+CIPHER(encrypt, enc, sbox, forwards, 1, 3)
+CIPHER(decrypt, dec, inv_sbox, backwards, 3, 1)
 
-CIPHER(encrypt_one, enc, sbox, ONE, forwards, 1, 3)
-CIPHER(decrypt_one, dec, inv_sbox, ONE, backwards, 3, 1)
-CIPHER(encrypt_four, enc, sbox, FOUR, forwards, 1, 3)
-CIPHER(decrypt_four, dec, inv_sbox, FOUR, backwards, 3, 1)
-
-typedef void cipher(const uint32_t *w, const uint32_t in[4], uint32_t out[4]);
-
-static inline void decrypt_unit(cipher *encrypt, cipher *decrypt, const uint32_t *data_key, const uint32_t *tweak_key,
-                                uint64_t number, uint8_t *unit, size_t length) {
+static inline void decrypt_unit(const uint32_t *data_key, const uint32_t *tweak_key, uint64_t number, uint8_t *unit,
+                                size_t length) {
     uint32_t tweak[4] = {(uint32_t)number, (uint32_t)(number >> 32), 0, 0};
     encrypt(tweak_key, tweak, tweak);
     for (size_t at = 0; at < length; at += 16) {
@@ -141,17 +131,10 @@ static inline void decrypt_unit(cipher *encrypt, cipher *decrypt, const uint32_t
     }
 }
 
-static uint64_t now(void) {
-    struct timespec t;
-    clock_gettime(CLOCK_MONOTONIC, &t);
-    return (uint64_t)t.tv_sec * 1000000000u + (uint64_t)t.tv_nsec;
-}
-
 int main(int argc, char **argv) {
-    if (argc != 4) { fprintf(stderr, "usage: tables one|four BYTES COUNT\n"); return 1; }
-    int four = strcmp(argv[1], "four") == 0;
-    size_t length = strtoull(argv[2], NULL, 10);
-    uint64_t count = strtoull(argv[3], NULL, 10);
+    if (argc != 3) { fprintf(stderr, "usage: xts BYTES COUNT\n"); return 1; }
+    size_t length = strtoull(argv[1], NULL, 10);
+    uint64_t count = strtoull(argv[2], NULL, 10);
     static const uint8_t key[64] = {
         0x27, 0x18, 0x28, 0x18, 0x28, 0x45, 0x90, 0x45, 0x23, 0x53, 0x60, 0x28, 0x74, 0x71, 0x35, 0x26,
         0x62, 0x49, 0x77, 0x57, 0x24, 0x70, 0x93, 0x69, 0x99, 0x59, 0x57, 0x49, 0x66, 0x96, 0x76, 0x27,
@@ -167,20 +150,12 @@ int main(int argc, char **argv) {
     expand(key + 32, tweak_key);
     uint8_t tried[32];
     memcpy(tried, example, sizeof tried);
-    if (four) decrypt_unit(encrypt_four, decrypt_four, data_key, tweak_key, 0xff, tried, sizeof tried);
-    else decrypt_unit(encrypt_one, decrypt_one, data_key, tweak_key, 0xff, tried, sizeof tried);
+    decrypt_unit(data_key, tweak_key, 0xff, tried, sizeof tried);
     for (int i = 0; i < 32; i++)
-        if (tried[i] != i) { fprintf(stderr, "tables: the example fails\n"); return 2; }
-    if (length % 16 != 0 || length == 0 || length > 4096) { fprintf(stderr, "tables: no data unit\n"); return 1; }
+        if (tried[i] != i) { fprintf(stderr, "xts: the example fails\n"); return 2; }
+    if (length % 16 != 0 || length == 0 || length > 4096) { fprintf(stderr, "xts: no data unit\n"); return 1; }
     static uint8_t unit[4096];
-    uint64_t start = now();
-    if (four)
-        for (uint64_t i = 0; i < count; i++)
-            decrypt_unit(encrypt_four, decrypt_four, data_key, tweak_key, i, unit, length);
-    else
-        for (uint64_t i = 0; i < count; i++)
-            decrypt_unit(encrypt_one, decrypt_one, data_key, tweak_key, i, unit, length);
-    uint64_t took = now() - start;
-    fprintf(stderr, "%llu %llu %u\n", (unsigned long long)(length * count), (unsigned long long)took, unit[0]);
+    for (uint64_t i = 0; i < count; i++) decrypt_unit(data_key, tweak_key, i, unit, length);
+    fprintf(stderr, "%u\n", unit[0]);
     return 0;
 }

@@ -1,4 +1,10 @@
-"""What all tests share: where the built programs are, volumes that are made once, and what may be skipped."""
+"""What all tests share: where the built programs are, volumes that are made once, and what may be skipped.
+
+    /usr/bin/python3 -m pytest tests -n 4                                 # all
+    /usr/bin/python3 -m pytest tests/test_stripes.py                      # a module
+    /usr/bin/python3 -m pytest tests/test_stripes.py::test_full_device    # a test
+
+`make check` builds what they need. The options below take other files in its place."""
 import contextlib
 import fcntl
 import gzip
@@ -11,7 +17,8 @@ import types
 
 import pytest
 
-pytest.register_assert_rewrite("support", "volumes", "kinds", "serving", "documents", "rescuing")
+pytest.register_assert_rewrite("support", "volumes", "kinds", "payloads", "serving", "documents", "rescuing")
+import payloads  # noqa: E402
 import support  # noqa: E402
 import volumes  # noqa: E402
 from kinds import kinds  # noqa: E402, F401
@@ -39,6 +46,7 @@ PLACES = {
     "luksrd-v3": "out/x86-64-v3/luksrd",
     "audit": "crates/luksrd_audit/out/luksrd_audit",
     "tools": "crates/luksrd_tools/out/luksrd_tools",
+    "tools-v3": "out/x86-64-v3/luksrd_tools",
     "out": "out",
 }
 
@@ -50,7 +58,7 @@ def pytest_addoption(parser):
                      "/bin/true, in the place of all of it: each has to fail")
 
 
-BUILT = {"luksrd", "each_luksrd", "audit", "tools", "library", "each_library", "plugin", "filter"}
+BUILT = {"luksrd", "each_luksrd", "audit", "each_tools", "library", "each_library", "plugin", "filter"}
 
 
 def pytest_collection_modifyitems(config, items):
@@ -87,13 +95,16 @@ def luksrd(request, tmp_path):
 
 
 @pytest.fixture(params=["x86-64-v2", "x86-64-v3"])
-def each_luksrd(request, tmp_path):
-    """The program for each processor, for what differs between them."""
-    if request.param == "x86-64-v2":
-        return Program(built(request.config, "luksrd"), tmp_path)
-    if not support.runs_v3():
+def processor(request):
+    """Each processor that there is a build for, for what differs between them."""
+    if request.param == "x86-64-v3" and not support.runs_v3():
         pytest.skip("this processor is older")
-    return Program(built(request.config, "luksrd-v3"), tmp_path)
+    return request.param
+
+
+@pytest.fixture
+def each_luksrd(request, processor, tmp_path):
+    return Program(built(request.config, {"x86-64-v2": "luksrd", "x86-64-v3": "luksrd-v3"}[processor]), tmp_path)
 
 
 @pytest.fixture
@@ -102,8 +113,8 @@ def audit(request, tmp_path):
 
 
 @pytest.fixture
-def tools(request, tmp_path):
-    return Program(built(request.config, "tools"), tmp_path)
+def each_tools(request, processor, tmp_path):
+    return Program(built(request.config, {"x86-64-v2": "tools", "x86-64-v3": "tools-v3"}[processor]), tmp_path)
 
 
 @pytest.fixture
@@ -112,14 +123,11 @@ def library(request):
     return built(request.config, "out", "libluksrd.so")
 
 
-@pytest.fixture(params=["x86-64-v2", "x86-64-v3"])
-def each_library(request):
+@pytest.fixture
+def each_library(request, processor):
     """The shared library for each processor."""
-    if request.param == "x86-64-v2":
-        return built(request.config, "out", "libluksrd.so")
-    if not support.runs_v3():
-        pytest.skip("this processor is older")
-    return built(request.config, "out", "glibc-hwcaps/x86-64-v3/libluksrd.so.2")
+    names = {"x86-64-v2": "libluksrd.so", "x86-64-v3": "glibc-hwcaps/x86-64-v3/libluksrd.so.2"}
+    return built(request.config, "out", names[processor])
 
 
 @pytest.fixture
@@ -259,6 +267,18 @@ def made2(cached):
                       lambda path: volumes.luks2(path, plain, cipher, bits, *options))
 
     return get
+
+
+@pytest.fixture(scope="session")
+def made(cached):
+    """Makes volumes with an attached or a detached header, each once."""
+    return payloads.Volumes(cached)
+
+
+@pytest.fixture
+def keys(tmp_path):
+    """The passphrases of those volumes are in the folder of the test."""
+    volumes.passphrases(tmp_path)
 
 
 def name_of(*parts):

@@ -25,6 +25,9 @@ NOT_LUKS = "luksrd: not a LUKS image"
 IN_AREA = "luksrd: image ends inside the header or a key area"
 BEFORE = "luksrd: image ends before the payload"
 FIRST = "Key slot 0 opens the volume.\n"
+MODES = [("xts-plain64", 256), ("xts-plain64", 512), ("xts-plain", 256), ("xts-plain", 512),
+         ("cbc-essiv:sha256", 128), ("cbc-essiv:sha256", 256), ("cbc-plain64", 128),
+         ("cbc-plain64", 256)]
 KEYS = ("pass", "pass2")
 FAST = "--pbkdf pbkdf2 --pbkdf-force-iterations 1000"
 ARGON2 = "--pbkdf-force-iterations 4 --pbkdf-parallel 1 --pbkdf-memory"
@@ -253,6 +256,13 @@ def check_truncated(luksrd, volume, size, plain_size, message):
     expect(luksrd("luksCat --key-file pass2", *names, "-", stdin=cut), **ended)
     if message not in (NOT_LUKS, IN_AREA):
         expect(luksrd("testPassphrase --key-file pass", *names, cut), FIRST)
+
+
+def check_volume(luksrd, volume):
+    """luksrd reports about the header what cryptsetup does; both passphrases open the volume, and
+    no other does."""
+    check_header(luksrd, volume)
+    check_opening(luksrd, volume)
 
 
 def check_opening(luksrd, volume):

@@ -11,7 +11,7 @@ from support import TOP, expect, must, needs, run
 
 GUIDES = ["README.md", *(f"docs/{name}" for name in (
     "AUDIT.md", "FORMATS.md", "GLOSSARY.md", "LIBRARY.md", "MIGRATION.md", "PROGRAMMERS.md", "PROOFS.md", "RECIPES.md",
-    "RESCUE.md", "SECURITY.md", "SPEED.md", "growth.svg"))]
+    "RESCUE.md", "SECURITY.md", "SPEED.md"))]
 # below PREFIX: what is installed, and what in the sources that is
 PROGRAM_FILES = {
     "bin/luksrd": None,
@@ -19,7 +19,6 @@ PROGRAM_FILES = {
     "share/man/man1/luksrd.1": "docs/luksrd.1",
     "share/zsh/site-functions/_luksrd": "completions/_luksrd",
     **{f"share/doc/luksrd/{name}": None for name in GUIDES},
-    "share/doc/luksrd/docs/growth.svg": "docs/growth.svg",
 }
 AUDIT_FILES = {
     "bin/luksrd-audit": None,
@@ -113,19 +112,52 @@ def make_program(make):
     return Make({**make.variables, **{name: f"no-{name}" for name in ("AUDIT", "LIBRARY", "PLUGIN", "FILTER")}})
 
 
-def test_the_programs_alone(make, make_program, tmp_path):
-    """Into a folder with a blank in its name."""
+OF_NBDKIT = [f"nbdkit/plugins/{PLUGIN}", f"nbdkit/filters/{FILTER}"]
+FOLDERS = {"PLUGINS": "/nbdkit/plugins", "FILTERS": "/nbdkit/filters", "MODULES": "/modules"}
+
+
+@pytest.mark.parametrize("target, variables, prefix, wanted", [
+    ("install", {"PREFIX": "/usr", "LIBRARY": "no-library", "PLUGIN": "no-plugin", "FILTER": "no-filter"}, "usr",
+     [*PROGRAM_FILES, *AUDIT_FILES]),
+    ("install", {"AUDIT": "no-audit", "LIBRARY": "no-library", "PLUGIN": "no-plugin", "FILTER": "no-filter"},
+     "usr/local", PROGRAM_FILES),
+    ("install", {"AUDIT": "no-audit", **FOLDERS}, "usr/local",
+     [*PROGRAM_FILES, *LIBRARY_FILES, *NBDKIT_PAGES, UNIT, "../../modules/luksrd.py", "../../modules/luksrd_lvm.py",
+      *(f"../../{name}" for name in OF_NBDKIT)]),
+    # plugin and filter go to nbdkit's own folders, with a unit for systemd
+    *(("install-plugin install-filter", {"PREFIX": f"/{prefix}/"}, prefix,
+       [*NBDKIT_PAGES, UNIT, *(os.path.relpath(name, prefix) for name in OF_NBDKIT)])
+      for prefix in ("usr", "usr/local")),
+], ids=["programs", "luksrd", "all but the audit", "nbdkit, /usr", "nbdkit, /usr/local"])
+def test_what_is_installed(make, tmp_path, target, variables, prefix, wanted):
+    """Into a folder with a blank in its name, and removed again."""
     there = tmp_path / "a folder"
-    where = {"DESTDIR": there, "PREFIX": "/usr", "AUDIT": make.variables["AUDIT"]}
-    expect(make_program("install", **where))
-    assert files_in(there / "usr") == sorted({**PROGRAM_FILES, **AUDIT_FILES})
-    for name, source in {**PROGRAM_FILES, **AUDIT_FILES}.items():
-        file = there / "usr" / name
-        assert file.stat().st_mode & 0o777 == (0o755 if name.startswith("bin/") else 0o644)
-        if source or name.startswith("bin/"):
-            assert file.read_bytes() == (TOP / source if source else make.variables["PROGRAM"]).read_bytes()
-    assert make_program("uninstall", **where).status == 0
+    expect(make(*target.split(), DESTDIR=there, **variables))
+    assert files_in(there) == sorted(os.path.normpath(f"{prefix}/{name}") for name in wanted)
+    sources = {**PROGRAM_FILES, **AUDIT_FILES, f"lib/libluksrd.so.{VERSION}": make.variables["SHARED"],
+               LIBRARY_FILES[1]: make.variables["SHARED_V3"], "bin/luksrd": make.variables["PROGRAM"],
+               "bin/luksrd-audit": make.variables["AUDIT"]}
+    for name in wanted:
+        file = there / prefix / name
+        if name in {**PROGRAM_FILES, **AUDIT_FILES}:
+            assert file.stat().st_mode & 0o777 == (0o755 if name.startswith("bin/") else 0o644)
+        if sources.get(name):
+            assert file.read_bytes() == (TOP / sources[name]).read_bytes()
+    assert make("uninstall", DESTDIR=there, **variables).status == 0
     assert files_in(there) == []
+    assert [*there.rglob("glibc-hwcaps")] == []
+
+
+def test_another_prefix_leaves_folders_of_nbdkit(make, stand_ins, tmp_path):
+    """An empty file in the place of a plugin that this PREFIX did not get stays."""
+    nbdkit = tmp_path / "nbdkit"
+    nbdkit.mkdir()
+    (nbdkit / PLUGIN).touch()
+    (stand_ins / "pkg-config").write_text(f"#!/bin/sh\necho '{nbdkit}'\n")
+    for target in "install", "uninstall":
+        assert make(target, PREFIX=tmp_path / "own").status == 0
+        assert (files_in(nbdkit), (nbdkit / PLUGIN).stat().st_size) == ([PLUGIN], 0)
+    assert files_in(tmp_path / "own") == []
 
 
 def test_documents(make_program, tmp_path):
@@ -234,47 +266,6 @@ def test_what_is_not_built(make, tmp_path, target, absent, said):
 def test_a_processor_that_there_is_not(make, tmp_path):
     ended = make("install", "CPU=x86-64-v9", DESTDIR=tmp_path / "nothing")
     assert (ended.status, ended.message.rpartition("*** ")[2]) == (2, "CPU is x86-64-v2 or x86-64-v3.  Stop.\n")
-
-
-def test_below_a_destdir(make, make_program, tmp_path):
-    """The program alone, and then all the rest with it; both libraries are those that are built."""
-    there, local = tmp_path / "there", tmp_path / "there/usr/local"
-    assert make_program("install", DESTDIR=there).status == 0
-    assert files_in(local) == sorted(PROGRAM_FILES)
-    folders = {"PLUGINS": "/usr/plugins", "FILTERS": "/usr/filters", "MODULES": "/usr/modules", "DESTDIR": there,
-               "AUDIT": "absent"}
-    assert make("install", **folders).status == 0
-    assert files_in(local) == sorted([*PROGRAM_FILES, *LIBRARY_FILES, *NBDKIT_PAGES, UNIT])
-    assert files_in(there / "usr/plugins") + files_in(there / "usr/filters") == [PLUGIN, FILTER]
-    assert files_in(there / "usr/modules") == ["luksrd.py", "luksrd_lvm.py"]
-    for name, built in (f"lib/libluksrd.so.{VERSION}", "SHARED"), (LIBRARY_FILES[1], "SHARED_V3"):
-        assert (local / name).read_bytes() == make.variables[built].read_bytes()
-    assert make("uninstall", **folders).status == 0
-    assert files_in(there) == []
-    assert [*there.rglob("glibc-hwcaps")] == []
-
-
-@pytest.mark.parametrize("prefix", ["/usr", "/usr/local/"])
-def test_plugin_and_filter_of_the_system(make, tmp_path, prefix):
-    """They go to nbdkit's own folders, with a unit for systemd."""
-    there = tmp_path / "there"
-    assert make("install-plugin", "install-filter", DESTDIR=there, PREFIX=prefix).status == 0
-    assert files_in(there) == sorted([f"nbdkit/plugins/{PLUGIN}", f"nbdkit/filters/{FILTER}",
-                                      *(f"{prefix.strip('/')}/{name}" for name in [*NBDKIT_PAGES, UNIT])])
-    assert make("uninstall", DESTDIR=there, PREFIX=prefix).status == 0
-    assert files_in(there) == []
-
-
-def test_another_prefix_leaves_folders_of_nbdkit(make, stand_ins, tmp_path):
-    """An empty file in the place of a plugin that this PREFIX did not get stays."""
-    nbdkit = tmp_path / "nbdkit"
-    nbdkit.mkdir()
-    (nbdkit / PLUGIN).touch()
-    (stand_ins / "pkg-config").write_text(f"#!/bin/sh\necho '{nbdkit}'\n")
-    for target in "install", "uninstall":
-        assert make(target, PREFIX=tmp_path / "own").status == 0
-        assert (files_in(nbdkit), (nbdkit / PLUGIN).stat().st_size) == ([PLUGIN], 0)
-    assert files_in(tmp_path / "own") == []
 
 
 @needs("v3")

@@ -1,7 +1,8 @@
 """Volumes that the library seals, as cryptsetup, qemu-img and luksrd read them. luksrd_tools writes
-them, with the passphrases one (slot 0) and two (slot 1)."""
+them, with the passphrases one (slot 0) and two (slot 1), and luksrd for the same processor reads
+them."""
 import pytest
-from payloads import Volume, check_header, check_opening, decrypted
+from payloads import Volume, check_volume, decrypted
 from support import must
 from volumes import cryptsetup, edit_segment, payload_start
 
@@ -10,13 +11,13 @@ MODES = ["xts-plain64", "xts-plain", "cbc-essiv:sha256", "cbc-plain64"]
 
 
 @pytest.fixture
-def sealed(tools, tmp_path):
+def sealed(each_tools, tmp_path):
     """Seals a volume, with the files of its passphrases beside it."""
     for name, text in {"pass": b"one", "pass2": b"two", "wrong": b"three"}.items():
         (tmp_path / name).write_bytes(text)
 
     def seal(version, mode, sector):
-        ended = tools(f"seal {version} {mode} {sector}")
+        ended = each_tools(f"seal {version} {mode} {sector}")
         assert ended.status == 0
         (tmp_path / "sealed").write_bytes(ended.output)
         return Volume(tmp_path / "sealed", PLAIN)
@@ -27,8 +28,7 @@ def sealed(tools, tmp_path):
 @pytest.mark.parametrize("mode", MODES)
 def test_luks1(each_luksrd, sealed, tmp_path, mode):
     volume = sealed("luks1", mode, 512)
-    check_header(each_luksrd, volume)
-    check_opening(each_luksrd, volume)
+    check_volume(each_luksrd, volume)
     # qemu-img does not read xts-plain
     if mode != "xts-plain":
         must("qemu-img", "convert", "-O", "raw", "--object", "secret,id=s,file=pass2",
@@ -43,8 +43,7 @@ def test_luks2(each_luksrd, sealed, tmp_path, mode, sector):
     """cryptsetup decrypts the payload under the same header for a payload at the start of its
     file."""
     volume = sealed("luks2", mode, sector)
-    check_header(each_luksrd, volume)
-    check_opening(each_luksrd, volume)
+    check_volume(each_luksrd, volume)
     cryptsetup("luksHeaderBackup --header-backup-file header sealed", cwd=tmp_path)
     payload = volume.image.read_bytes()[payload_start(volume.image):]
     (tmp_path / "image").write_bytes(payload)

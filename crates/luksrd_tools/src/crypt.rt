@@ -2,7 +2,7 @@
 //! `decrypt`) COUNT sectors of BYTES bytes under the numbers from 0 and a key of AES-256 (two for
 //! XTS) in the mode of this name, and writes to standard error the number of bytes, the nanoseconds
 //! that they cost, and the first byte of the result. With no further arguments it does nothing.
-//! `bench/xts` runs it beside others.
+//! `bench/measure` runs it beside others.
 
 use crate::mode_key::key_of;
 use crate::usage::print_usage;

@@ -3,7 +3,7 @@
 //! and the key to standard error. Each further number is one more length, and gets a line of its
 //! own. `blockwise` in place of `luks_kdf` derives the blocks of a key one after the other, by
 //! SHA-1 or SHA-256. With no further arguments, or with others, it does nothing.
-//! `tests/test_keys.py` compares the keys with hashlib's, and `bench/pbkdf2` the cost with that of
+//! `tests/test_keys.py` compares the keys with hashlib's, and `bench/measure` the cost with that of
 //! others.
 
 ghost use Rattle.std.specs.Prelude.{◌≤◌};

@@ -1,5 +1,5 @@
 //! PBKDF2 with the blocks of a key one after the other, as luksrd 1.0.0 derived them, to measure
-//! luks_kdf against. No contract says that it is PBKDF2; `bench/pbkdf2` compares the keys.
+//! luks_kdf against. No contract says that it is PBKDF2; `tests/test_keys.py` compares the keys.
 
 ghost use Rattle.std.specs.Prelude.{ℕ, ◌≤◌, length};
 
