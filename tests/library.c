@@ -15,9 +15,20 @@
  *     library key IMAGE HEADER KEY LIMIT
  *
  * prints what comparing a volume key with a header gives: the code, the status and the sentence.
- * LIMIT is that of the iterations, or 0. */
+ * LIMIT is that of the iterations, or 0.
+ *
+ *     library read IMAGE PASSPHRASE MOST FAILS OFFSET:LENGTH..
+ *
+ * writes these ranges of the plain text by luksrd_read, over a function that gives at most MOST
+ * bytes at once and fails at its call number FAILS, if that is not 0; ends with 100 plus what
+ * luksrd_read returns, if that is not 0.
+ *
+ *     library modes
+ *
+ * prints the modes that have names, and the numbers of these names. */
 #include "library.h"
 
+#include <errno.h>
 #include <inttypes.h>
 #include <pthread.h>
 
@@ -421,9 +432,87 @@ static int print_check(char **argv)
   return 0;
 }
 
+/* An image, how many bytes of it a call gives at most, and the number of the call that fails. */
+struct source {
+  struct bytes image;
+  int calls, fails;
+  size_t most;
+};
+
+static int64_t read_source(void *from, uint8_t *to, size_t len, uint64_t offset)
+{
+  struct source *source = from;
+  if (++source->calls == source->fails) {
+    errno = EIO;
+    return -1;
+  }
+  must(offset <= source->image.len && len <= source->image.len - offset, "a place in the image");
+  if (len > source->most)
+    len = source->most;
+  memcpy(to, source->image.at + offset, len);
+  return (int64_t)len;
+}
+
+/* A range that is not read has zeros alone; nothing after a range is written to. */
+static int write_range(const struct luksrd_cipher *cipher, struct source *source, const char *range)
+{
+  char *colon;
+  const uint64_t offset = strtoull(range, &colon, 10);
+  const size_t len = strtoull(colon + 1, NULL, 10);
+  struct bytes bytes = { malloc(len + 1), len };
+  must(bytes.at != NULL, "memory");
+  memset(bytes.at, 'x', len + 1);
+  errno = 0;
+  const int status =
+      luksrd_read(cipher, source->image.len, read_source, source, offset, bytes.at, len);
+  if (status < 0)
+    perror("luksrd_read");
+  must(status == 0 || all_zero(bytes.at, len), "a range that is not read");
+  must(bytes.at[len] == 'x', "the byte after a range");
+  must(status != 0 || fwrite(bytes.at, 1, len, stdout) == len, "the output");
+  free(bytes.at);
+  return status;
+}
+
+static int write_ranges(int ranges, char **argv)
+{
+  static struct luksrd_cipher cipher;
+  struct luksrd_options options = { .size = sizeof options };
+  struct luksrd_volume volume;
+  struct bytes header = header_in(argv[0]), passphrase = contents(argv[1]);
+  struct source source = {
+    .image = contents(argv[0]),
+    .most = strtoul(argv[2], NULL, 10),
+    .fails = atoi(argv[3]),
+  };
+  int status = 0;
+  open_volume(header, passphrase, &options, &volume);
+  must(luksrd_prepare(&volume, &cipher) == LUKSRD_OK, "the keys");
+  for (int i = 0; i < ranges && status == 0; i++)
+    status = write_range(&cipher, &source, argv[4 + i]);
+  free(header.at);
+  free(passphrase.at);
+  free(source.image.at);
+  return status == 0 ? 0 : 100 + status;
+}
+
+static int print_modes(void)
+{
+  for (uint32_t mode = 0; mode < 1000; mode++)
+    if (luksrd_mode_name(mode))
+      printf("%" PRIu32 " %s %" PRIu32 "\n", mode, luksrd_mode_name(mode),
+             luksrd_mode_of(luksrd_mode_name(mode)));
+  printf("%" PRIu32 " %" PRIu32 "\n", luksrd_mode_of(""), luksrd_mode_of("aes-xts-plain65"));
+  return 0;
+}
+
 int main(int argc, char **argv)
 {
   must(luksrd_version() == LUKSRD_VERSION, "the version");
+  if (argc == 2 && strcmp(argv[1], "modes") == 0)
+    return print_modes();
+  if (argc > 6 && strcmp(argv[1], "read") == 0)
+    return write_ranges(argc - 6, argv + 2);
   if (argc == 6 && strcmp(argv[1], "key") == 0)
     return print_check(argv + 2);
   if (argc > 3 && strcmp(argv[1], "headers") == 0)

@@ -36,117 +36,41 @@ struct calls {
 
 /* ---- the calls */
 
-static uint32_t nothing(struct calls *calls)
-{
-  (void)calls;
-  return 0;
-}
+#define CALL(name, call)                    \
+  static uint32_t name(struct calls *calls) \
+  {                                         \
+    return call;                            \
+  }
+#define OPENING(header_len, key, with, opened)                                         \
+  luksrd_open(calls->header.at, header_len, calls->key.at, calls->key.len, &calls->with, \
+              &calls->opened, &calls->message)
+#define OPENING_BY_KEY(key)                                                                \
+  luksrd_open_by_key(calls->header.at, calls->header.len, calls->key, calls->volume.key_size, \
+                     &calls->options, &calls->none, &calls->message)
+#define CHECKING(header_len, key, with)                                                    \
+  luksrd_check_key(calls->header.at, header_len, calls->key, calls->volume.key_size, &calls->with, \
+                   &calls->message)
 
-static uint32_t open_well(struct calls *calls)
-{
-  return luksrd_open(calls->header.at, calls->header.len, calls->passphrase.at,
-                     calls->passphrase.len, &calls->options, &calls->volume, &calls->message);
-}
-
-static uint32_t open_by_another(struct calls *calls)
-{
-  return luksrd_open(calls->header.at, calls->header.len, calls->another.at, calls->another.len,
-                     &calls->options, &calls->none, &calls->message);
-}
-
-static uint32_t open_by_a_long_one(struct calls *calls)
-{
-  return luksrd_open(calls->header.at, calls->header.len, calls->longest.at, calls->longest.len,
-                     &calls->options, &calls->none, &calls->message);
-}
-
-static uint32_t open_truncated(struct calls *calls)
-{
-  return luksrd_open(calls->header.at, 80000, calls->passphrase.at, calls->passphrase.len,
-                     &calls->options, &calls->none, &calls->message);
-}
-
-static uint32_t open_with_bad_options(struct calls *calls)
-{
-  return luksrd_open(calls->header.at, calls->header.len, calls->passphrase.at,
-                     calls->passphrase.len, &calls->bad_options, &calls->none, &calls->message);
-}
-
-static uint32_t check_well(struct calls *calls)
-{
-  return luksrd_check_key(calls->header.at, calls->header.len, calls->volume.key,
-                          calls->volume.key_size, &calls->options, &calls->message);
-}
-
-static uint32_t check_another(struct calls *calls)
-{
-  return luksrd_check_key(calls->header.at, calls->header.len, calls->another_key,
-                          calls->volume.key_size, &calls->options, &calls->message);
-}
-
-static uint32_t check_without_a_header(struct calls *calls)
-{
-  return luksrd_check_key(calls->header.at, 0, calls->volume.key, calls->volume.key_size,
-                          &calls->options, &calls->message);
-}
-
-static uint32_t check_with_bad_options(struct calls *calls)
-{
-  return luksrd_check_key(calls->header.at, calls->header.len, calls->volume.key,
-                          calls->volume.key_size, &calls->bad_options, &calls->message);
-}
-
-static uint32_t open_by_key_well(struct calls *calls)
-{
-  return luksrd_open_by_key(calls->header.at, calls->header.len, calls->volume.key,
-                            calls->volume.key_size, &calls->options, &calls->none, &calls->message);
-}
-
-static uint32_t open_by_another_key(struct calls *calls)
-{
-  return luksrd_open_by_key(calls->header.at, calls->header.len, calls->another_key,
-                            calls->volume.key_size, &calls->options, &calls->none, &calls->message);
-}
-
-static uint32_t header_len(struct calls *calls)
-{
-  return luksrd_header_len(calls->header.at, calls->header.len) > calls->header.len;
-}
-
-static uint32_t prepare_well(struct calls *calls)
-{
-  return luksrd_prepare(&calls->volume, &calls->cipher);
-}
-
-static uint32_t prepare_wrong(struct calls *calls)
-{
-  return luksrd_prepare(&calls->wrong, &calls->no_cipher);
-}
-
-static uint32_t plan(struct calls *calls)
-{
-  return luksrd_plan(&calls->cipher, UINT32_MAX, 1, 9000, &calls->step);
-}
-
-static uint32_t finish(struct calls *calls)
-{
-  return luksrd_finish(&calls->cipher, &calls->step, calls->payload, calls->step.read_len);
-}
-
-static uint32_t decrypt_one(struct calls *calls)
-{
-  return luksrd_decrypt(&calls->cipher, 0, calls->payload, calls->volume.sector_size);
-}
-
-static uint32_t decrypt_more(struct calls *calls)
-{
-  return luksrd_decrypt(&calls->cipher, 0, calls->payload, sizeof calls->payload);
-}
-
-static uint32_t decrypt_a_part(struct calls *calls)
-{
-  return luksrd_decrypt(&calls->cipher, 0, calls->payload, 100);
-}
+CALL(nothing, calls == NULL)
+CALL(open_well, OPENING(calls->header.len, passphrase, options, volume))
+CALL(open_by_another, OPENING(calls->header.len, another, options, none))
+CALL(open_by_a_long_one, OPENING(calls->header.len, longest, options, none))
+CALL(open_truncated, OPENING(80000, passphrase, options, none))
+CALL(open_with_bad_options, OPENING(calls->header.len, passphrase, bad_options, none))
+CALL(check_well, CHECKING(calls->header.len, volume.key, options))
+CALL(check_another, CHECKING(calls->header.len, another_key, options))
+CALL(check_without_a_header, CHECKING(0, volume.key, options))
+CALL(check_with_bad_options, CHECKING(calls->header.len, volume.key, bad_options))
+CALL(open_by_key_well, OPENING_BY_KEY(volume.key))
+CALL(open_by_another_key, OPENING_BY_KEY(another_key))
+CALL(header_len, luksrd_header_len(calls->header.at, calls->header.len) > calls->header.len)
+CALL(prepare_well, luksrd_prepare(&calls->volume, &calls->cipher))
+CALL(prepare_wrong, luksrd_prepare(&calls->wrong, &calls->no_cipher))
+CALL(plan, luksrd_plan(&calls->cipher, UINT32_MAX, 1, 9000, &calls->step))
+CALL(finish, luksrd_finish(&calls->cipher, &calls->step, calls->payload, calls->step.read_len))
+CALL(decrypt_one, luksrd_decrypt(&calls->cipher, 0, calls->payload, calls->volume.sector_size))
+CALL(decrypt_more, luksrd_decrypt(&calls->cipher, 0, calls->payload, sizeof calls->payload))
+CALL(decrypt_a_part, luksrd_decrypt(&calls->cipher, 0, calls->payload, 100))
 
 /* What the search has to find: parts of the volume key on the stack. One alone may be too uniform to be looked for. */
 static __attribute__((noinline)) uint32_t leave_key(struct calls *calls)

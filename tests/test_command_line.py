@@ -2,6 +2,15 @@
 import pytest
 from support import USAGE, expect
 
+HEADER_COMMANDS = ["isLuks", "luksUUID", "luksDump", "luksCheck"]
+KEY_COMMANDS = ["testPassphrase", "luksCat"]
+
+
+def each(commands, *lines):
+    """Each of these lines after each of the commands."""
+    return [f"{command} {line}" for command in commands for line in lines]
+
+
 NO_COMMANDS = [
     "", "afSplit", "luksrd", "--help", "-h", "help", "--version",
     "afMerge --hash sha256 --stripes 4001 --key-bytes 32 stripes",
@@ -15,6 +24,11 @@ NO_COMMANDS = [
     "luksCheck", "luksCheck --key-file pass volume",
     "luksCat --header volume volume", "luksUUID --header", "luksDump --header volume", "isLuks --header= volume extra",
     "afMerge --hash sha1 --stripes 1 --key-bytes 1 --header volume volume",
+    *each(HEADER_COMMANDS, "--header - -", "--header volume --header volume volume"),
+    *each(KEY_COMMANDS, "--key-file - --header - volume", "--key-file - --header volume -",
+          "--key-file pass --header - -", "--key-file - --header - -", "--key-file=- --header=- volume",
+          "--key-file pass --header - -- -", "--key-file pass --header volume --header volume volume",
+          "--key-file pass volume --header"),
 ]
 
 
@@ -37,7 +51,14 @@ SPLIT = "afSplit --hash sha256 --stripes 2 --random"
     (f"{SPLIT} gone missing", "missing"),  # the key is opened before the random bytes
     ("luksCat --key-file pass missing", "missing"),
     ("luksCat --key-file missing volume", "missing"),
-    ("luksCat --key-file gone missing", "missing"),  # the image is opened before the key file
+    # the image is opened first, then the header, and then the key file
+    ("luksCat --key-file gone missing", "missing"),
+    *((line, "missing") for line in (
+        *each(HEADER_COMMANDS, "--header volume missing", "--header gone missing", "--header missing volume"),
+        *each(KEY_COMMANDS, "--key-file pass --header volume missing", "--key-file pass --header gone missing",
+              "--key-file gone --header volume missing", "--key-file lost --header gone missing",
+              "--key-file pass --header missing volume", "--key-file gone --header missing volume",
+              "--key-file missing --header volume volume"))),
     (f"{MERGE} .", "."),
     ("luksCat --key-file pass .", "."),
     ("luksCat --key-file . volume", "."),

@@ -68,11 +68,6 @@ def wanted(luksrd, tmp_path):
     return lines
 
 
-@pytest.mark.parametrize("name", HASHES.split())
-def test_hashes_that_are_offered(luksrd, name):
-    assert luksrd(f"afMerge --hash {name} --stripes 1 --key-bytes 1 -", stdin=b"a") == (0, b"a", "")
-
-
 # bash calls the function with the words as readline splits them, with = as a word of its own, and lets readline offer
 # files if the function requests it
 BASH_ANSWERS = r"""

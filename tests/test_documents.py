@@ -9,8 +9,7 @@ import typing
 
 import pytest
 import volumes
-from documents import (SHELLS, Cook, commands_in, document, not_run, programs, recipe,
-                       web_server)
+from documents import SHELLS, Cook, document, not_run, programs, recipe, web_server
 from support import (NO_KEY, TOP, alone, expect, must, namespace, needs, run, wait_until)
 from volumes import PASS, copy_of, cryptsetup
 
@@ -205,6 +204,13 @@ def cook(request, luksrd, plugin, filter, library, tmp_path):
     server.server_close()
 
 
+@pytest.fixture(params=SHELLS)
+def plain_cook(request, tmp_path):
+    """For recipes that read plain.img by other tools."""
+    more = {"PATH": f"{os.environ['PATH']}:/usr/sbin", "url": ""}
+    return Cook(request.param, tmp_path, os.environ | more)
+
+
 # ---- the recipes
 
 class Case(typing.NamedTuple):
@@ -321,6 +327,9 @@ CASES = {
     "noise": Case({"disk.img": "ext4", "plain.img": "ext4"},
                   ["RESCUE.md:# A partition table, a header"], {},
                   ["luksrd: not a LUKS image"]),
+}
+# those that read plain.img by other tools
+PLAIN_CASES = {
     "ext3 by debugfs": Case({"plain.img": "ext3"}, ["RESCUE.md:# ext2, ext3, ext4"], GIVES_FSTAB),
     **{f"{kind} by GRUB": Case(
         {"plain.img": kind}, ["RESCUE.md:# XFS, Btrfs, NTFS and many others"], GIVES_FSTAB)
@@ -413,6 +422,11 @@ def test_recipes(cook, stock, name):
     cooked(cook, stock, CASES[name])
 
 
+@pytest.mark.parametrize("name", PLAIN_CASES)
+def test_recipes_by_other_tools(plain_cook, stock, name):
+    cooked(plain_cook, stock, PLAIN_CASES[name])
+
+
 def test_first_lines():
     """Both documents begin in the same way."""
     first = recipe("README.md", "Begin with these lines")
@@ -424,7 +438,7 @@ def test_first_lines():
     ("RESCUE.md", f"luksrd-audit |mount |ddrescue |{RESCUE}"), ("MIGRATION.md", "luksrd-audit "), ("PROGRAMMERS.md", "cc ")])
 def test_whole_document(name, but):
     """Each line of commands is in a recipe that is run here."""
-    places = [place for case in [*CASES.values(), *MORE.values()] for place in case.places]
+    places = [place for case in {**CASES, **PLAIN_CASES, **MORE}.values() for place in case.places]
     assert not_run(name, [place for place in places if place.startswith(name)], but) == []
 
 
@@ -589,22 +603,22 @@ def test_file_systems(cook, stock, luksrd, name, image):
 
 @alone
 @needs("root", "loop", "lvm")
-def test_lvm(cook, stock, loop):
+def test_lvm(plain_cook, stock, loop):
     """Two logical volumes, the second with a file system. lvm is to look at nothing but the loop
     device."""
-    group = cook.folder / "group"
+    group = plain_cook.folder / "group"
     group.touch()
     os.truncate(group, 16 * MIB)
     device = loop(group)
     config = f"""devices {{ use_devicesfile=0 filter=["a|^{device}$|","r|.*|"] }}
-        backup {{ backup=0 archive=0 }} global {{ locking_dir="{cook.folder}/lock" }}"""
+        backup {{ backup=0 archive=0 }} global {{ locking_dir="{plain_cook.folder}/lock" }}"""
     for line in (f"pvcreate {device}", f"vgcreate vg0 {device}", "lvcreate -an -Zn -Wn -l 1 -n swap vg0",
                  "lvcreate -an -Zn -Wn -l 2 -n root vg0"):
         command, *arguments = line.split()
         must("lvm", command, "--driverloaded", "n", "--config", config, *arguments)
-    image = copy_of(group, cook.images / "plain.img")
+    image = copy_of(group, plain_cook.images / "plain.img")
     volumes.overwrite(image, 5 * MIB, stock("ext4").read_bytes())
-    cooked(cook, stock, MORE["LVM"])
+    cooked(plain_cook, stock, MORE["LVM"])
 
 
 def test_programmers(cook, stock):
@@ -632,36 +646,6 @@ def test_answers(luksrd, stock, tmp_path):
         answers.append("Segment: REFUSED" if len(answers) == 4 and "Segment: REFUSED" in found
                        else found[0])
     assert answers == stated
-
-
-def test_whole_disk_is_no_volume(luksrd, stock):
-    expect(luksrd("isLuks", stock("partition1 luks2 inside")), status=1)
-
-
-def test_what_is_exchanged(luksrd, stock, tmp_path):
-    """The backup as the image, image and header exchanged, image and key file exchanged."""
-    (tmp_path / "pass").write_bytes(PASS)
-    volume, header = stock("luks2 inside"), stock("backup luks2 inside")
-    expect(luksrd("luksCat --key-file pass", header))
-    expect(luksrd("luksCat --key-file pass --header", volume, header))
-    expect(luksrd("luksCat --key-file", volume, "pass"), "", "luksrd: not a LUKS image", 4)
-
-
-def test_slots_of_priority_0(luksrd, stock, tmp_path):
-    volumes.passphrases(tmp_path)
-    image = copy_of(stock("luks2 inside"), tmp_path / "image")
-    cryptsetup("config --priority ignore --key-slot 1", image)
-    expect(luksrd("testPassphrase --key-file pass2 image"), "", NO_KEY, 2)
-    expect(luksrd("testPassphrase --key-slot 1 --key-file pass2 image"),
-           "Key slot 1 opens the volume.\n")
-    cryptsetup("config --priority ignore --key-slot 0", image)
-    expect(luksrd("testPassphrase --key-file pass image"), "", "luksrd: no key slot can be tried", 1)
-
-
-def test_argon2(luksrd, stock, tmp_path):
-    (tmp_path / "pass").write_bytes(PASS)
-    expect(luksrd("testPassphrase --key-file pass", stock("argon2 inside")), "",
-           "luksrd: no key slot can be tried; skipped: 0 (argon2id)", 1)
 
 
 @needs("systemd-cryptenroll")

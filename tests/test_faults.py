@@ -228,20 +228,6 @@ def test_interrupted_writes(tampered, here, sample, how, calls, plain, message, 
     assert calls is None or calls_in(here / "trace", "write") == calls
 
 
-def test_each_read_of_an_image(tampered, here, sample):
-    """What a read that fails leaves is a beginning of the output."""
-    call = 1
-    while True:
-        ended = tampered("read", "volume", f"error=EIO:when={call}", CAT)
-        if "INJECTED" not in (here / "trace").read_text(errors="replace"):
-            break
-        assert (ended.status, ended.message) == (6, READ_FAILED + "\n")
-        assert sample.plain.startswith(ended.output)
-        call += 1
-    assert call > 2
-    expect(ended, sample.plain)
-
-
 @pytest.mark.parametrize("file, line", [
     ("volume", "luksCat --key-file pass {}"),
     ("header", "luksCat --key-file missing --header {} volume"),

@@ -47,11 +47,6 @@ def test_damaged_header(luksrd, here, name, offset, content, line, output, messa
     expect(luksrd(line.format(name)), output, message, status)
 
 
-def test_damaged_primary_header(luksrd, here, sample):
-    overwrite(here / "volume2", 5000, b"\xff")
-    expect(luksrd("luksCat --key-file pass volume2"), sample.plain2)
-
-
 def test_large_header(luksrd, tmp_path):
     """A header of LUKS2 of 1 MiB, whose JSON text is nested a hundred deep; also in little memory."""
     size = 1 << 20

@@ -1,30 +1,20 @@
-"""What luksrd reads from volumes with an attached header, beside what went into them and what
-cryptsetup and qemu-img report: every byte of the payload, which slot a passphrase opens, and how
-runs end on wrong passphrases and on truncated images."""
+"""What luksrd reports and reads of volumes with an attached header, beside what went into them and
+what cryptsetup and qemu-img report: the header, every byte of the payload, which slot a passphrase
+opens, and how runs end on wrong passphrases and on truncated images."""
 import random
+import re
 
 import pytest
-from payloads import (BEFORE, FIRST, IN_AREA, NOT_LUKS, PLAIN, PLAIN1, Volume, Volumes, area_end,
-                      check_opening, check_truncated, left_over)
-from support import NO_KEY, expect, must, run
-from volumes import (by_qemu, copy_of, cryptsetup, fill1, overwrite, passphrases,
-                     payload_start)
+from payloads import (BEFORE, FIRST, IN_AREA, MODES, NOT_LUKS, PLAIN, PLAIN1, Volume, area_end,
+                      check_header, check_opening, check_truncated, check_volume, format2, left_over,
+                      make_several)
+from reported import dump_of, reported
+from support import NO_KEY, expect, must, needs, run
+from volumes import (PASS, by_qemu, copy_of, cryptsetup, fill1, overwrite, passphrases,
+                     payload_start, slot_by_cryptsetup)
 
-MODES = [("xts-plain64", 256), ("xts-plain64", 512), ("xts-plain", 256), ("xts-plain", 512),
-         ("cbc-essiv:sha256", 128), ("cbc-essiv:sha256", 256), ("cbc-plain64", 128),
-         ("cbc-plain64", 256)]
+pytestmark = pytest.mark.usefixtures("keys")
 HASHES = ["sha1", "sha224", "sha256", "sha384", "sha512"]
-
-
-@pytest.fixture(scope="session")
-def made(cached):
-    return Volumes(cached)
-
-
-@pytest.fixture(autouse=True)
-def keys(tmp_path):
-    passphrases(tmp_path)
-    (tmp_path / "newline").write_bytes(b"a passphrase\n")
 
 
 @pytest.mark.parametrize("mode, bits, hash_, options", [
@@ -37,7 +27,8 @@ def keys(tmp_path):
 ])
 def test_luks1(each_luksrd, made, tmp_path, mode, bits, hash_, options):
     volume = made.luks1(mode, bits, hash_, *options.split())
-    check_opening(each_luksrd, volume)
+    check_volume(each_luksrd, volume)
+    (tmp_path / "newline").write_bytes(b"a passphrase\n")
     newline = run("cryptsetup", "open", "--test-passphrase", "--key-file", tmp_path / "newline",
                   volume.image)
     assert newline.status == 2
@@ -50,7 +41,7 @@ def test_luks1(each_luksrd, made, tmp_path, mode, bits, hash_, options):
     *(("xts-plain64", 512, 512, hash_) for hash_ in HASHES if hash_ != "sha256"),
 ])
 def test_luks2(each_luksrd, made, mode, bits, sector, hash_):
-    check_opening(each_luksrd, made.luks2(mode, bits, sector, "--hash", hash_))
+    check_volume(each_luksrd, made.luks2(mode, bits, sector, "--hash", hash_))
 
 
 @pytest.mark.parametrize("bits", [128, 256])
@@ -59,10 +50,86 @@ def test_luks1_of_qemu(each_luksrd, tmp_path, bits):
     by_qemu(image, f",cipher-alg=aes-{bits},hash-alg=sha512")
     plain = random.Random(bits).randbytes(1 << 20)
     fill1(image, plain)
+    check_header(each_luksrd, Volume(image))
+    info = must("qemu-img", "info", image).decode()
+    expect(each_luksrd("luksUUID image"), re.search(r"uuid: (.*\n)", info)[1])
     expect(each_luksrd("luksCat --key-file pass image"), plain)
     must("qemu-img", "convert", "-O", "raw", "--object", "secret,id=s,file=pass", "--image-opts",
          "driver=luks,key-secret=s,file.driver=file,file.filename=image", "theirs", cwd=tmp_path)
     assert (tmp_path / "theirs").read_bytes() == plain
+
+
+@pytest.mark.parametrize("kib", [16, 32, 64, 128, 256, 512, 1024, 2048, 4096])
+def test_luks2_lengths(luksrd, tmp_path, kib):
+    image = tmp_path / "image"
+    format2(image, f"--luks2-metadata-size {kib}k --luks2-keyslots-size 1m")
+    check_header(luksrd, Volume(image))
+    assert reported(image)["header_size"] == kib * 1024
+
+
+@pytest.fixture
+def several(cached, tmp_path):
+    """A copy of a volume of many parts, with the passphrases beside it."""
+    return copy_of(cached("several", make_several), passphrases(tmp_path) / "several")
+
+
+def test_several_slots(luksrd, several):
+    check_header(luksrd, Volume(several))
+    expect(luksrd("testPassphrase --key-file pass several"),
+           slot_by_cryptsetup(several, several.parent / "pass"))
+    cryptsetup("luksKillSlot --key-file pass several 1", cwd=several.parent)
+    check_header(luksrd, Volume(several))
+
+
+def test_a_header_backup(luksrd, several):
+    cryptsetup("luksHeaderBackup --header-backup-file backup several", cwd=several.parent)
+    expect(luksrd("luksDump backup"), dump_of(reported(several)))
+
+
+@pytest.mark.parametrize("role, offset, damage", [
+    ("secondary", 0, bytes(512)),
+    ("primary", 20000, b"x"),
+], ids=["the primary header", "the secondary header"])
+def test_a_damaged_header(luksrd, several, role, offset, damage):
+    """cryptsetup reports about the undamaged one, as it repairs what it reads."""
+    dump = dump_of({**reported(several), "header": role})
+    overwrite(several, offset, damage)
+    expect(luksrd("luksDump several"), dump)
+    other = "primary" if role == "secondary" else "secondary"
+    expect(luksrd("luksCheck several"), f"{other} header: not valid\n",
+           "luksrd: the header has findings", 1)
+
+
+def test_both_headers_damaged(luksrd, several):
+    """The byte in the primary header is the brace that its metadata start with: most bytes after
+    it are random, and would sometimes be the one written here."""
+    overwrite(several, 20000, b"x")
+    overwrite(several, 4096, b"x")
+    for command in "luksUUID", "luksDump", "luksCheck":
+        expect(luksrd(command, several), message=NOT_LUKS, status=4)
+    expect(luksrd("isLuks several"), status=1)
+
+
+@needs("grub-fstest", "nbdkit", "nbdcopy")
+@pytest.mark.parametrize("version, mode, bits, sector", [
+    *((1, mode, bits, 512) for mode, bits in (("xts-plain64", 512), ("xts-plain", 256),
+                                              ("cbc-essiv:sha256", 256), ("cbc-plain64", 128))),
+    *((2, mode, bits, sector) for mode, bits, sector in (
+        ("xts-plain64", 512, 512), ("xts-plain64", 256, 4096), ("xts-plain", 256, 512),
+        ("cbc-essiv:sha256", 256, 512), ("cbc-plain64", 128, 512))),
+])
+def test_other_readers(luksrd, made, tmp_path, version, mode, bits, sector):
+    """What luksrd reads is what GRUB reads, and for LUKS1 nbdkit. GRUB asks for the passphrase, on
+    standard input here."""
+    image, plain, _ = made.luks1(mode, bits) if version == 1 else made.luks2(mode, bits, sector)
+    must("grub-fstest", "-C", image, "cp", f"(crypto0)0+{len(plain) // 512}", "by-grub", cwd=tmp_path,
+         stdin=PASS + b"\n")
+    expect(luksrd("luksCat --key-file pass", image), (tmp_path / "by-grub").read_bytes())
+    # nbdkit 1.32 crashes on ESSIV
+    if version == 1 and "essiv" not in mode:
+        must("nbdkit", "-U", "-", "file", image, "--filter=luks", "passphrase=+pass", "--run",
+             'nbdcopy "$uri" by-nbdkit', cwd=tmp_path)
+        assert (tmp_path / "by-nbdkit").read_bytes() == (tmp_path / "by-grub").read_bytes()
 
 
 LIMITED = "luksrd: no key slot can be tried; skipped: 0 (iterations), {} (iterations)"
@@ -73,6 +140,9 @@ LIMITED = "luksrd: no key slot can be tried; skipped: 0 (iterations), {} (iterat
     (1, "luksCat --key-slot 5 --key-file pass", "", NO_KEY, 2),
     (1, "luksCat --key-slot 1 --key-file pass2", "", "luksrd: key slot 1 is disabled", 1),
     (1, "luksCat --key-slot 8 --key-file pass", "", "luksrd: key slot 8 is not there", 1),
+    (1, "luksCat --key-slot 008 --key-file pass", "", "luksrd: key slot 8 is not there", 1),
+    (1, "luksCat --key-slot 5 --max-iterations 1299 --key-file pass2", "",
+     "luksrd: key slot 5 is skipped: iterations", 1),
     (1, "testPassphrase --max-iterations 1000 --key-file pass", FIRST, "", 0),
     (1, "testPassphrase --max-iterations 999 --key-file pass", "", LIMITED.format(5), 1),
     (2, "testPassphrase --key-slot 1 --key-file pass2", "Key slot 1 opens the volume.\n", "", 0),
@@ -95,6 +165,10 @@ def test_slot_to_be_ignored(luksrd, made, tmp_path):
     cryptsetup("config --priority ignore --key-slot 0", image)
     expect(luksrd("testPassphrase --key-file pass image"), message=NO_KEY, status=2)
     expect(luksrd("testPassphrase --key-slot 0 --key-file pass image"), FIRST)
+    cryptsetup("config --priority ignore --key-slot 1", image)
+    expect(luksrd("testPassphrase --key-file pass image"), message="luksrd: no key slot can be tried",
+           status=1)
+    cryptsetup("config --priority normal --key-slot 1", image)
     cryptsetup("luksConvertKey --key-slot 1 --pbkdf argon2id --pbkdf-memory 32 --pbkdf-parallel 1 "
                "--pbkdf-force-iterations 4 --key-file pass2 image", cwd=tmp_path)
     expect(luksrd("testPassphrase --key-file pass2 image"), status=1,

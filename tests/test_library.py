@@ -1,7 +1,8 @@
 """The library for C: small programs over luksrd.h write the plaintext of volumes of all kinds, with
 luksCat's messages. The one in C is built with AddressSanitizer and also run under valgrind; it
-prints each field of a volume and compares volume keys with headers. Calls leave no part of a key on
-the stack. What luksrd.h declares is what the library's source does."""
+prints each field of a volume, compares volume keys with headers, and reads ranges by luksrd_read.
+Calls leave no part of a key on the stack. What luksrd.h declares is what the library's source does,
+and its man pages state."""
 
 import base64
 import hashlib
@@ -13,33 +14,17 @@ import shutil
 import border
 import pytest
 import volumes
-from kinds import CUT, NO_LUKS, REFUSED, VOLUME1, VOLUME2, each_kind
+from kinds import CUT, LUKS1, NO_LUKS, REFUSED, VOLUME1, VOLUME2, each_kind
 from support import TOP, USAGE, expect, must, needs, run, runs_v3
 from volumes import cryptsetup
 
 pytestmark = needs("gcc")
-GCC = ["gcc", "-std=c11", "-D_GNU_SOURCE", "-Wall", "-Wextra", "-Werror"]
+STRICT = ["-Wall", "-Wextra", "-Werror"]
+GCC = ["gcc", "-std=c11", "-D_GNU_SOURCE", *STRICT]
 SANITIZED = ["-fsanitize=address,undefined", "-fno-sanitize-recover=all"]
 VALGRIND = ["valgrind", "-q", "--error-exitcode=98", "--leak-check=full",
             "--errors-for-leak-kinds=definite"]
 BEFORE = "luksrd: image ends before the payload"
-# a reader over the module for Python, which loads the library by ctypes
-PYTHON = """
-import sys, warnings, luksrd
-warnings.simplefilter("ignore")
-image, header, key = sys.argv[1:]
-try:
-    volume = luksrd.open(image, key_file=key, header=None if header == "-" else header)
-except luksrd.LuksError as error:
-    print(error, file=sys.stderr)
-    sys.exit(error.status)
-sys.stdout.buffer.write(b"".join(iter(lambda: volume.read(7001), b"")))
-if volume.incomplete:
-    print(volume.incomplete, file=sys.stderr)
-    sys.exit(volume.incomplete.status)
-"""
-
-
 @pytest.fixture
 def build(cached, library):
     """build(NAME, SOURCE, ARGUMENT..) gives a program in C, with these arguments for gcc."""
@@ -72,8 +57,7 @@ def in_c(request, build, library, kinds, tmp_path):
     return lambda *arguments: run(*command, *arguments, cwd=kinds.folder, env=os.environ | more)
 
 
-@pytest.fixture(params=["luksCat", "AddressSanitizer", "valgrind", "x86-64-v2", "x86-64-v3",
-                        "Python, x86-64-v2", "Python, x86-64-v3"])
+@pytest.fixture(params=["luksCat", "AddressSanitizer", "valgrind", "x86-64-v2", "x86-64-v3"])
 def reader(request, build, library, luksrd, kinds, tmp_path):
     """Runs what reads a volume: reader(IMAGE, HEADER or "-", KEY FILE)."""
     name = request.param
@@ -84,9 +68,6 @@ def reader(request, build, library, luksrd, kinds, tmp_path):
             "luksCat --key-file", key, *([] if header == "-" else ["--header", header]), image,
             cwd=kinds.folder)
     command, more = program_of(name, build, library, tmp_path)
-    if name.startswith("Python"):
-        command = ["/usr/bin/python3", "-B", "-c", PYTHON]
-        more = {"LUKSRD_LIBRARY": f"{tmp_path}/libluksrd.so.2", "PYTHONPATH": f"{TOP}/python"}
     if name == "valgrind" and not shutil.which("valgrind"):
         pytest.skip("valgrind is not installed")
     return lambda *arguments: run(*command, *arguments, cwd=kinds.folder, env=os.environ | more)
@@ -173,6 +154,47 @@ def test_a_fixed_size_is_read(reader, kinds, tmp_path):
     with_fields(tmp_path / "image", "12884901888")
     expect(reader(tmp_path / "image", "-", "pass2"), (kinds / "plain").read_bytes()[4096:24576],
            "luksrd: image ends 12884881408 bytes before the segment does", 4)
+
+
+# ---- reading by luksrd_read
+
+def ranges(size, count):
+    """Pairs of an offset and a length: at both ends, within sectors and over many of them."""
+    chance = random.Random(count)
+    found = [(0, size), (0, 0), (size, 0), (size - 1, 1), (511, 2), (262143, 2), (1, size - 2)]
+    while len(found) < count:
+        offset = chance.randrange(size)
+        longest = min(size - offset, chance.choice((600, 5000, 700000)))
+        found.append((offset, chance.randrange(longest + 1)))
+    return found
+
+
+@pytest.mark.parametrize("most", [1 << 30, 1000])
+def test_read(in_c, kinds, most):
+    """The bytes are those that were encrypted, however few a call gives."""
+    text = kinds.text(VOLUME1)
+    wanted = ranges(len(text), 40)
+    ended = in_c("read", VOLUME1, "pass", str(most), "0", *(f"{at}:{count}" for at, count in wanted))
+    expect(ended, b"".join(text[at:at + count] for at, count in wanted))
+
+
+@pytest.mark.parametrize("most, fails, range_, message, status", [
+    (1 << 30, 3, "0:300032", "luksrd_read: Input/output error", 100 - 1),
+    # the image has ended
+    (0, 0, "0:5000", "luksrd_read: Success", 100 - 1),
+    # past the plain text: nothing is read. LUKSRD_BAD_RANGE is 17
+    *((1 << 30, 1, range_, "", 100 + 17) for range_ in ("0:300033", "300032:1", f"{2 ** 64 - 1}:2"))])
+def test_read_that_fails(in_c, most, fails, range_, message, status):
+    """Nothing is given, and the error number is that of the call."""
+    expect(in_c("read", VOLUME1, "pass", str(most), str(fails), range_), b"", message, status)
+
+
+def test_modes(in_c):
+    """Their names are those by which cryptsetup has made a volume of each, and lead back to the
+    same numbers."""
+    names = dict.fromkeys(f"aes-{cipher}" for cipher, _ in LUKS1)
+    lines = [f"{number} {name} {number}" for number, name in enumerate(names, 1)]
+    expect(in_c("modes"), "\n".join([*lines, "0 0", ""]))
 
 
 # ---- volume keys
@@ -387,6 +409,39 @@ def test_declarations(tmp_path):
     rows = border.compared(tmp_path)
     assert len(rows) > 100
     assert [row for row in rows if row[1] != row[2]] == []
+
+
+@pytest.mark.parametrize("command", [
+    "gcc -std=c90 -pedantic -Wdeclaration-after-statement -xc", "gcc -std=c90 -pedantic -O2 -xc", "gcc -std=c99 -xc",
+    "gcc -std=c17 -Wshadow -Wconversion -xc", "g++ -std=c++98 -xc++", "g++ -std=c++17 -O2 -xc++"])
+def test_header_is_compiled(command, tmp_path):
+    """In the old C and in C++ too, whether or not its functions are called."""
+    if not shutil.which(command.split()[0]):
+        pytest.skip(f"{command.split()[0]} is not installed")
+    for body in "return 0;", ("return luksrd_read(0, 0, 0, 0, 0, 0, 0) + "
+                              "(luksrd_mode_name(luksrd_mode_of(\"\")) != 0);"):
+        source = tmp_path / "program"
+        source.write_text(f"#include <luksrd.h>\nint main(void)\n{{\n  {body}\n}}\n")
+        expect(run(*command.split(), *STRICT, "-Wno-nonnull", f"-I{TOP}/c", "-c", source, "-o", "/dev/null"))
+
+
+@needs("mandoc")
+def test_man_pages_of_section_3(tmp_path):
+    """Each function of luksrd.h has one, with its prototype, and mandoc has nothing to say of them."""
+    names = must(TOP / "packaging/manual", tmp_path / "man").decode().split()
+    header = (TOP / "c/luksrd.h").read_text()
+    exported = re.findall(r"^    (luksrd_\w+);$", (TOP / "c/luksrd.map").read_text(), re.MULTILINE)
+    written = ["luksrd_mode_name", "luksrd_mode_of", "luksrd_read", "luksrd_wipe_stack"]
+    assert sorted(names) == sorted(f"{name}.3" for name in ["luksrd", *exported, *written])
+    assert sorted(path.name for path in (tmp_path / "man").iterdir()) == sorted(names)
+    expect(run("mandoc", "-Tlint", "-Wwarning", *(tmp_path / "man").iterdir()))
+    for name in exported + written:
+        shown = re.sub(r".\x08", "", must("mandoc", "-Tutf8", tmp_path / f"man/{name}.3").decode())
+        arguments = re.search(rf"{name}\(([^)]*)\)\s*(?:LUKSRD_\w+)?\s*[;{{]", header)[1]
+        assert re.sub(r"\s", "", f"{name}({arguments});") in re.sub(r"\s", "", shown)
+    whole = must("mandoc", "-Tascii", tmp_path / "man/luksrd.3").decode()
+    for name in re.findall(r"^(?:struct|enum) (\w+) \{$", header, re.MULTILINE):
+        assert f"{name} {{" in whole
 
 
 NAMES = ["luksrd_check_key", "luksrd_decrypt", "luksrd_ending", "luksrd_finish",

@@ -6,7 +6,6 @@ import pathlib
 import re
 
 import pytest
-from links import broken_links
 from support import TOP, alone, built, expect, must, needs, run, runs_v3
 from test_install import FILTER, GUIDES, LIBRARY_PAGES, PLUGIN, RESCUE, VERSION, Make, files_in
 
@@ -162,13 +161,6 @@ def test_papers_of_a_package(unpacked, name):
         expect(run("mandoc", "-Tlint", "-Wwarning", source))
 
 
-def test_links_in_packaged_documents(unpacked, tmp_path):
-    number, broken = broken_links(unpacked / "luksrd/usr/share/doc/luksrd")
-    assert (number > 50, broken) == (True, [])
-    (tmp_path / "AUDIT.md").write_text(gunzipped(unpacked / "luksrd-audit/usr/share/doc/luksrd-audit/AUDIT.md.gz"))
-    assert broken_links(tmp_path)[1] == []
-
-
 @pytest.mark.parametrize("name, pattern", DEPENDS)
 def test_what_a_package_depends_on(made, name, pattern):
     depends = field(made[1][name], "Depends").split(", ")
@@ -254,15 +246,21 @@ def is_installed():
 
 @pytest.fixture
 def installed(made):
-    """The packages, which dpkg has installed; they are gone after the test."""
+    """The packages, which dpkg has installed. After the test they are purged, and nothing of them is left."""
     if is_installed():
         pytest.skip("luksrd is installed here")
-    packages = made[1]
+    packages, paths = made[1], []
     try:
         by_dpkg("-i", *packages.values())
+        paths = [line for line in must("dpkg", "-L", *packages).decode().splitlines() if "luksrd" in line]
         yield packages
     finally:
         by_dpkg("-P", *packages)
+    assert len(paths) > 40
+    assert [path for path in paths if os.path.lexists(path)] == []
+    assert not os.path.lexists("/var/lib/dpkg/alternatives/luksrd")
+    assert known_libraries() == []
+    assert "luksrd" not in run("dpkg", "-l", *packages).output.decode()
 
 
 def by_dpkg(*words):
@@ -324,35 +322,5 @@ def test_the_choice_of_the_administrator(installed, here, sample):
         reads_the_sample("/usr/bin/luksrd", here, sample)
     must("update-alternatives", "--auto", "luksrd")
     assert chosen() == v2
-
-
-@needs("root")
-def test_nothing_is_left_of_packages(made):
-    """This is after those above, which have purged them."""
-    if is_installed():
-        pytest.skip("luksrd is installed here")
-    packages = made[1]
-    by_dpkg("-i", *packages.values())
-    paths = [line for line in must("dpkg", "-L", *packages).decode().splitlines() if "luksrd" in line]
-    assert len(paths) > 40
-    must("update-alternatives", "--set", "luksrd", "/usr/libexec/luksrd/x86-64-v3/luksrd")
-    by_dpkg("-P", *packages)
-    assert [path for path in paths if os.path.lexists(path)] == []
-    assert not os.path.lexists("/var/lib/dpkg/alternatives/luksrd")
-    assert known_libraries() == []
-    assert "luksrd" not in run("dpkg", "-l", *packages).output.decode()
-
-
-@needs("root")
-def test_make_installs_the_library_for_the_loader(made):
-    if is_installed():
-        pytest.skip("luksrd is installed here")
-    make = made[0]
-    try:
-        assert make("install-library").status == 0
-        expect(run("python3", "-c", VERSION_OF_LIBRARY), LIBRARY_VERSION)
-    finally:
-        assert make("uninstall", PLUGINS="", FILTERS="").status == 0
-    assert "cannot open shared object file" in run("python3", "-c", VERSION_OF_LIBRARY).message
-    assert not is_installed()
-    assert known_libraries() == []
+    # a choice, too, goes with the packages
+    must("update-alternatives", "--set", "luksrd", v3)

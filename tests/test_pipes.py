@@ -1,6 +1,5 @@
 """What a run leaves in a pipe: nothing that it does not need is read."""
 import os
-import subprocess
 import threading
 
 import pytest
@@ -100,22 +99,3 @@ def test_nothing_past_the_end_of_a_payload(consumed, extended, line, sectors):
     ended, taken = consumed(line, image.read_bytes())
     expect(ended, plain[:sectors * 512])
     assert taken == payload_start(image) + sectors * 512
-
-
-def test_a_payload_without_an_end(luksrd, extended):
-    image, plain = extended
-    expect(luksrd("luksCat --key-file pass -", stdin=image.read_bytes()[:payload_start(image) + len(plain)]), plain)
-
-
-@pytest.mark.parametrize("words", ["luksCat --key-file {pass} {volume}",
-                                   "luksCat --key-file {pass} --header {volume} {volume}"])
-def test_pipes_of_the_shell(luksrd, here, sample, start, words):
-    """Each input is a pipe that the shell has made."""
-    names, descriptors = [], []
-    for word in words.split():
-        if word.startswith("{"):
-            writer = start("cat", word.strip("{}"), stdout=subprocess.PIPE)
-            descriptors.append(writer.stdout.fileno())
-            word = f"/dev/fd/{descriptors[-1]}"
-        names.append(word)
-    expect(luksrd(names[0], *names[1:], pass_fds=descriptors), sample.plain)

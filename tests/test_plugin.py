@@ -6,6 +6,7 @@ import os
 import random
 import re
 import shutil
+import signal
 import subprocess
 import termios
 import threading
@@ -14,10 +15,10 @@ import time
 import pytest
 from kinds import (BY_VOLUME_KEY, KINDS, NO_KEY, NO_LUKS, REFUSED, START, VOLUME1, VOLUME2,
                    each_kind, volume_key_options)
-from serving import (SIZE, Way, by_kind, by_plugin, connected, in_threads,  # noqa: F401
+from serving import (SIZE, Way, by_filter, by_kind, by_plugin, connected, in_threads,  # noqa: F401
                      needs_nbdkit, read, reads_ranges, reads_shorter, way)
 from support import TOP, alone, expect, must, needs, run, wait_until
-from volumes import copy_of, cryptsetup, with_checksum
+from volumes import copy_of, cryptsetup, overwrite, with_checksum
 
 pytestmark = needs_nbdkit
 PASS, WRONG = "key-file=pass", "key-file=wrong"
@@ -303,6 +304,85 @@ def test_a_read_fails(by_plugin, tmp_path, call, status, after):
     said = ended.output.decode()
     assert ("300032" in said.splitlines()) == (status == 0)
     assert f"{VOLUME1}: luksrd: read failed: after {after} bytes: " in said
+
+
+# ---- little stack, signals and no threads
+
+def with_stack(kib):
+    """The command before one that gets so much stack."""
+    return ["bash", "-c", f'ulimit -s {kib}; exec "$@"', "bash"]
+
+
+@pytest.mark.parametrize("kib", [128, 256])
+@pytest.mark.parametrize("secret", [[PASS], ["passphrase=+pass"], [KEY1, AT]], ids=str)
+def test_little_stack(way, secret, kib):
+    """A volume opens where nbdkit's file plugin runs, which needs less stack than the library."""
+    little = with_stack(kib)
+    expect(run(*little, "nbdkit", "-U", "-", "file", VOLUME1, "--run", "true", cwd=way.kinds.folder))
+    way.gives_kind(VOLUME1, VOLUME1, *secret, before=little)
+
+
+def test_little_stack_and_a_wrong_passphrase(way):
+    way.refuses(NO_KEY, VOLUME1, WRONG, before=with_stack(256))
+
+
+@needs("strace")
+def test_no_thread(by_plugin):
+    """The volume is refused with a sentence if no thread can be started."""
+    failing = ["strace", "-qq", "-f", "-o", "/dev/null", "-e", "trace=clone3", "-e",
+               "inject=clone3:error=EAGAIN:when=1"]
+    by_plugin.refuses("luksrd: no thread to derive keys on: Resource temporarily unavailable", VOLUME1,
+                      PASS, before=failing)
+
+
+@needs("strace")
+@pytest.mark.parametrize("name", [VOLUME1, "pass"])
+def test_signal_while_a_file_is_opened(by_plugin, tmp_path, name):
+    """It is opened again."""
+    calls, whole = tmp_path / "calls", {name: by_plugin.kinds / name}
+    interrupted = ["strace", "-qq", "-f", "-o", calls, "-P", whole[name], "-e", "trace=openat", "-e",
+                   "inject=openat:error=EINTR:when=1..3"]
+    ended = by_plugin.run(SIZE, whole.get(VOLUME1, VOLUME1), f"key-file={whole.get('pass', 'pass')}",
+                          before=interrupted)
+    assert (ended.status, ended.output, calls.read_text().count("EINTR")) == (0, b"300032\n", 3)
+
+
+@pytest.fixture
+def slow(kinds, tmp_path):
+    """A volume whose slot asks for as many iterations as there can be: PBKDF2 would take an hour or
+    more."""
+    image = copy_of(kinds / VOLUME1, tmp_path / "slow")
+    overwrite(image, 208 + 4, b"\xff" * 4)
+    return image
+
+
+def busy(process):
+    """Whether a process, which still runs, has used the processor for a second."""
+    assert process.poll() is None
+    with open(f"/proc/{process.pid}/stat") as file:
+        return int(file.read().rpartition(")")[2].split()[11]) >= 100
+
+
+@pytest.mark.parametrize("number", [signal.SIGTERM, signal.SIGINT])
+def test_signal_while_the_plugin_derives_a_key(by_plugin, slow, number):
+    """It ends nbdkit at once."""
+    process = by_plugin.start("nbdkit", "-f", "-U", "socket", *by_plugin.arguments, slow,
+                              f"key-file={by_plugin.kinds / 'pass'}")
+    wait_until(lambda: busy(process))
+    process.send_signal(number)
+    assert process.wait(60) == -number
+
+
+def test_signals_while_the_filter_derives_a_key(by_filter, slow):
+    """SIGTERM waits for the derivation, and SIGKILL ends it."""
+    server = by_filter.serve("file", slow, PASS)
+    by_filter.start("nbdinfo", "--size", server.uri, stdout=subprocess.DEVNULL, stderr=subprocess.DEVNULL)
+    wait_until(lambda: busy(server.process))
+    server.process.terminate()
+    time.sleep(2)
+    assert server.process.poll() is None
+    server.process.kill()
+    assert server.process.wait(60) == -signal.SIGKILL
 
 
 # ---- what they report about themselves

@@ -14,7 +14,6 @@ import os
 import pathlib
 import pickle
 import random
-import re
 import signal
 import subprocess
 import sys
@@ -156,15 +155,6 @@ def test_facts(volume):
         assert (other.key_slot, other.sector_size) == (5, 512)
 
 
-def test_buffered_reader(volume, text):
-    wanted = text(VOLUME2)
-    with io.BufferedReader(volume, 1000) as reader:
-        reader.seek(4000)
-        assert reader.peek(1)[:1] == wanted[4000:4001] and reader.read(5000) == wanted[4000:9000]
-        assert b"".join(reader) == wanted[9000:]
-    assert volume.closed
-
-
 def sealed(made1, plain):
     plain += bytes(-len(plain) % 512)
     return made1("aes-xts-plain64", "sha256", 512, plain=plain)
@@ -228,7 +218,9 @@ def test_names_of_files(path, text, start):
 def test_refused(image, options, code, status, message):
     with pytest.raises(luksrd.LuksError) as caught:
         luksrd.open(image, **{"key_file": "pass"} | options)
+    kind = {1: luksrd.NotLuksError, 10: luksrd.WrongKeyError}.get(code, luksrd.LuksError)
     for error in (caught.value, pickle.loads(pickle.dumps(caught.value))):
+        assert type(error) is kind and type(error.code) is luksrd.Code
         assert (error.code, error.status, error.message) == (code, status, message)
         assert str(error) == message
 
@@ -305,7 +297,7 @@ def test_another_volume_key(changed, text):
     other = bytearray(pathlib.Path(f"{VOLUME2}.key").read_bytes())
     other[changed] ^= 1
     for image, header in ((VOLUME2, None), (f"{VOLUME2}.lost", VOLUME2)):
-        with pytest.raises(luksrd.LuksError) as caught:
+        with pytest.raises(luksrd.WrongKeyError) as caught:
             by_key(image, volume_key_file=None, volume_key=other, header=header)
         assert (caught.value.code, caught.value.status) == (18, 2)
         assert str(caught.value) == "luksrd: volume key does not match the digest in the header"
@@ -340,23 +332,6 @@ def test_huge_secrets():
                         {"volume_key_file": "huge"}):
             with pytest.raises(ValueError, match="longer than 64 bytes"):
                 by_key(f"{VOLUME1}.lost", VOLUME1, **options)
-
-
-def test_structs():
-    """The module's structs have the fields, sizes and offsets that luksrd.h states."""
-    stated = re.findall(
-        r"_Static_assert\((sizeof|offsetof)\(struct luksrd_(\w+)(?:, (\w+))?\) == (\d+)",
-        (TOP / "c/luksrd.h").read_text())
-    structs = {"options": luksrd._Options, "volume": luksrd._Opened, "cipher": luksrd._Cipher,
-               "step": luksrd._Step, "message": luksrd._Message}
-    assert {struct for _, struct, _, _ in stated} == set(structs)
-    for what, struct, field, number in stated:
-        ours = structs[struct]
-        got = ctypes.sizeof(ours) if what == "sizeof" else getattr(ours, field).offset
-        assert int(number) == got, (struct, field)
-    for name, struct in structs.items():
-        assert [field for field, *_ in struct._fields_] == [
-            field for what, other, field, _ in stated if other == name and what == "offsetof"]
 
 
 # ---- closing, and what is left

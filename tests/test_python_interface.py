@@ -1,9 +1,9 @@
 """The module for Python, what it takes and what it is: parts of files, objects in the place of files, lines, its errors
 and facts, where its warnings point, and how pip installs it. What is read is what was encrypted."""
+import ctypes
 import enum
 import io
 import os
-import pickle
 import random
 import re
 import shutil
@@ -14,7 +14,7 @@ import zipfile
 
 import pytest
 import volumes
-from support import NO_KEY, TOP, expect, must, needs, run, wait_until
+from support import TOP, expect, must, run, wait_until
 
 sys.path.insert(0, str(TOP / "python"))
 sys.dont_write_bytecode = True
@@ -75,17 +75,17 @@ def opener(request, by_key):
 
 class Memory:
     """An image in memory, which gives at most so many bytes at once, and notes what was asked for. `fails` is the first
-    byte that cannot be read, and `ends` one after which there is nothing."""
+    byte that cannot be read."""
 
-    def __init__(self, content, most=1 << 30, fails=1 << 62, ends=1 << 62):
+    def __init__(self, content, most=1 << 30, fails=1 << 62):
         self.content, self.size, self.most = content, len(content), most
-        self.fails, self.ends, self.asked = fails, ends, []
+        self.fails, self.asked = fails, []
 
     def pread_into(self, view, offset):
         self.asked.append((offset, len(view)))
         if offset <= self.fails < offset + len(view):
             raise OSError(5, "a part of the disk is gone")
-        found = self.content[offset:min(offset + len(view), self.ends)][:self.most]
+        found = self.content[offset:offset + len(view)][:self.most]
         view[:len(found)] = found
         return len(found)
 
@@ -196,16 +196,6 @@ def test_object_that_fails(volume):
         by_passphrase(Memory(content, fails=100))
 
 
-def test_object_that_ends(volume):
-    content = volume.read_bytes()
-    image = Memory(content)
-    with by_passphrase(image) as opened:
-        image.ends = len(content) - 1000
-        with pytest.raises(OSError, match="the image has become shorter"):
-            opened.read()
-        assert opened.pread(1000, 0) == TEXT[:1000]
-
-
 @pytest.mark.parametrize("answer, error", [(-1, OSError), (1 << 40, OSError), (None, TypeError), (0.5, TypeError)])
 def test_object_that_answers_wrongly(volume, answer, error):
     image = Memory(volume.read_bytes())
@@ -252,23 +242,21 @@ def test_codes():
     assert issubclass(luksrd.Code, enum.IntEnum)
 
 
-@pytest.mark.parametrize("options, kind, code, status, message", [
-    ({"passphrase": "a wrong one"}, luksrd.WrongKeyError, luksrd.Code.NO_KEY, 2, NO_KEY),
-    ({"passphrase": b"", "header": "/dev/null"}, luksrd.NotLuksError, luksrd.Code.NOT_LUKS, 4, NO_LUKS),
-    ({"passphrase": volumes.PASS, "key_slot": 1}, luksrd.LuksError, luksrd.Code.SLOT_DISABLED, 1,
-     "luksrd: key slot 1 is disabled")], ids=["wrong", "no LUKS", "disabled"])
-def test_errors(volume, options, kind, code, status, message):
-    with pytest.raises(luksrd.LuksError) as caught:
-        luksrd.open(volume, **options)
-    for error in caught.value, pickle.loads(pickle.dumps(caught.value)):
-        assert type(error) is kind and type(error.code) is luksrd.Code
-        assert (error.code, error.status, error.message, str(error)) == (code, status, message, message)
-
-
-def test_wrong_volume_key(volume):
-    with pytest.raises(luksrd.WrongKeyError) as caught:
-        luksrd.open_by_volume_key(volume, payload_offset=0, volume_key=bytes(64))
-    assert caught.value.code is luksrd.Code.OTHER_KEY and caught.value.status == 2
+def test_structs():
+    """The module's structs have the fields, sizes and offsets that luksrd.h states."""
+    stated = re.findall(
+        r"_Static_assert\((sizeof|offsetof)\(struct luksrd_(\w+)(?:, (\w+))?\) == (\d+)",
+        (TOP / "c/luksrd.h").read_text())
+    structs = {"options": luksrd._Options, "volume": luksrd._Opened, "cipher": luksrd._Cipher,
+               "step": luksrd._Step, "message": luksrd._Message}
+    assert {struct for _, struct, _, _ in stated} == set(structs)
+    for what, struct, field, number in stated:
+        ours = structs[struct]
+        got = ctypes.sizeof(ours) if what == "sizeof" else getattr(ours, field).offset
+        assert int(number) == got, (struct, field)
+    for name, struct in structs.items():
+        assert [field for field, *_ in struct._fields_] == [
+            field for what, other, field, _ in stated if other == name and what == "offsetof"]
 
 
 def test_unknown_code():
