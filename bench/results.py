@@ -67,8 +67,9 @@ def path_of_machine():
 def text_of(results):
     """The text of a file: JSON, with each row in a line of its own."""
     text = json.dumps(results, indent=1)
-    text = re.sub(r"\[\n[^][{}]*\]", lambda found: json.dumps(json.loads(found[0])), text)
-    return re.sub(r"(?<=\": )\{\n[^{}]*\}(?=,?\n {3,4}[\"}])", lambda found: json.dumps(json.loads(found[0])), text) + "\n"
+    for lists_or_rows in r"\[\n[^][{}]*\]", r"(?<=\": )\{\n[^{}]*\}(?=,?\n {3,4}[\"}])":
+        text = re.sub(lists_or_rows, lambda found: json.dumps(json.loads(found[0])), text)
+    return text + "\n"
 
 
 class Run:

@@ -1,7 +1,6 @@
 """What is measured. TABLES has the tables of docs/SPEED.md, each with a function that yields its rows: the name of a
 row, and what each column runs. One more row, or column, is one more entry in such a function."""
 
-import gzip
 import hashlib
 import os
 import shutil
@@ -63,7 +62,8 @@ def keys(at):
         for length in (16, 32, 64):
             arguments = [short, ITERATIONS, length]
             by_openssl = ["openssl", "kdf", "-keylen", length, "-kdfopt", f"digest:{digest}", "-kdfopt",
-                          "pass:passphrase", "-kdfopt", "salt:0123456789abcdef", "-kdfopt", f"iter:{ITERATIONS}", "PBKDF2"]
+                          "pass:passphrase", "-kdfopt", "salt:0123456789abcdef", "-kdfopt", f"iter:{ITERATIONS}",
+                          "PBKDF2"]
             yield f"{name}, {length} bytes", {
                 **{it.name: Time([it.tools, "derive", "luks_kdf", *arguments]) for it in at.builds},
                 "OpenSSL": Time(by_openssl),
@@ -275,8 +275,8 @@ def compiled(folder, name):
 
 
 class Table(NamedTuple):
-    """A table: its rows; how a number of seconds is shown, unless it is as it is; whether time is that of the clock; and
-    how the result of a command is read, if all columns have to give the same."""
+    """A table: its rows; what a number of seconds is shown as; whether time is that of the clock; and how the result of
+    a command is read, if all columns have to give the same."""
     rows: Callable
     figure: Callable = float
     by_clock: bool = False
