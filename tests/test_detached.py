@@ -14,14 +14,11 @@ pytestmark = pytest.mark.usefixtures("keys")
 
 
 def check_rescue(luksrd, volume, replacement):
-    """A backup of the header gives the plain bytes even if the start of the image is lost. It is
-    itself a volume without payload."""
+    """A backup of the header gives the plain bytes even if the start of the image is lost."""
     folder = luksrd.folder
     cryptsetup("luksHeaderBackup --header-backup-file backup", volume.image, cwd=folder)
     backup = Volume(volume.image, volume.plain, folder / "backup")
     expect(luksrd("luksCat --key-file pass", *backup.names), volume.plain)
-    expect(luksrd("luksCat --key-file pass backup"))
-    expect(luksrd("luksCat --key-file pass --header", volume.image, "backup"))
     image = copy_of(volume.image, folder / "image")
     overwrite(image, 0, replacement(payload_start(image)))
     expect(luksrd("luksCat --key-file pass image"), message=NOT_LUKS, status=4)
@@ -51,7 +48,11 @@ def test_backup_of_luks1(each_luksrd, made, mode, bits, options, replacement):
     ("cbc-plain64", 128, 512),
 ])
 def test_backup_of_luks2(each_luksrd, made, mode, bits, sector, replacement):
-    check_rescue(each_luksrd, made.luks2(mode, bits, sector), replacement)
+    """Such a backup is itself a volume, whose payload is empty."""
+    volume = made.luks2(mode, bits, sector)
+    check_rescue(each_luksrd, volume, replacement)
+    expect(each_luksrd("luksCat --key-file pass backup"))
+    expect(each_luksrd("luksCat --key-file pass --header", volume.image, "backup"))
 
 
 @pytest.mark.parametrize("mode, bits", MODES)
