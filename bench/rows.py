@@ -290,14 +290,12 @@ def key_printed(folder, command):
 
 
 def sum_of_bytes(folder, command):
-    """The hash of what a program prints, or writes into the file `out`."""
+    """The hash of what a program writes into the file `out`, or of what it prints."""
     (folder / "out").write_bytes(b"")
     with open(folder / "printed", "wb") as printed:
         completed(command, stdout=printed)
-    total = hashlib.sha256()
-    for name in ("printed", "out"):
-        total.update((folder / name).read_bytes())
-    return total.hexdigest()
+    written = folder / ("out" if (folder / "out").stat().st_size else "printed")
+    return hashlib.sha256(written.read_bytes()).hexdigest()
 
 
 TABLES = {
