@@ -121,4 +121,6 @@ def volume(folder, payload):
             file.seek(start)
             for _ in range(0, payload, MIB):
                 file.write(os.urandom(min(payload, MIB)))
+            file.flush()
+            os.fsync(file.fileno())
     return image

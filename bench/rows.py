@@ -206,6 +206,8 @@ def searching(at):
     with open(image, "wb") as file:
         for _ in range(1024):
             file.write(os.urandom(MIB))
+        file.flush()
+        os.fsync(file.fileno())
     yield "1 GiB of random bytes", {
         "luksrd-audit --search": Time([AUDIT, "--search", image], status=1),
         "cat": Time(["cat", image]),
