@@ -179,7 +179,7 @@ def test_read(in_c, kinds, most):
 
 
 @pytest.mark.parametrize("most, fails, range_, message, status", [
-    (1 << 30, 3, "0:300032", "luksrd_read: Input/output error", 100 - 1),
+    (1 << 30, 2, "0:300032", "luksrd_read: Input/output error", 100 - 1),
     # the image has ended
     (0, 0, "0:5000", "luksrd_read: Success", 100 - 1),
     # past the plain text: nothing is read. LUKSRD_BAD_RANGE is 17
