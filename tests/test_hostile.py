@@ -43,6 +43,7 @@ COMMANDS = ["isLuks", "luksUUID", "luksDump", "luksCheck", "testPassphrase", "lu
     ("volume2", 5000, b"\xff", "luksCheck {}", "primary header: not valid\n", "luksrd: the header has findings", 1),
 ])
 def test_damaged_header(luksrd, here, name, offset, content, line, output, message, status):
+    expect(luksrd("isLuks", name))
     overwrite(here / name, offset, content)
     expect(luksrd(line.format(name)), output, message, status)
 
