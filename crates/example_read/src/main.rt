@@ -23,6 +23,7 @@ fn first_sector(rt: &HostRuntime, image: &str, passphrase: &str) -> Result<[u8; 
             named: None,
             max_iterations: None,
         },
+        argon2: None,
     };
     let volume = Volume::open(rt.alloc(), &options, &image, &passphrase)?;
     let mut sector = [0; 512];

@@ -9,7 +9,7 @@ use Rattle.luks_key_slots.specs.declared.fault.PassphraseFault.{PassphraseFault}
 use Rattle.luks_key_slots.specs.declared.fault.PassphraseFault.TheVariants.{TooLong}
 use Rattle.luks_key_slots.specs.declared.fault.VolumeFault.{VolumeFault}
 use Rattle.luks_key_slots.specs.declared.fault.OpenFault.TheVariants.{Memory}
-use Rattle.luks_key_slots.specs.declared.fault.VolumeFault.TheVariants.{Passphrase, Slots}
+use Rattle.luks_key_slots.specs.declared.fault.VolumeFault.TheVariants.{Argon2Memory, Passphrase, Slots}
 use Rattle.luks_key_slots.specs.declared.opening.Opened.{Opened}
 use Rattle.luks_report.specs.Faults.{message_at_end}
 use Rattle.luks_report.specs.declared.message.Message.TheVariants.{Done}
@@ -31,7 +31,7 @@ use Rattle.luks_payload.specs.declared.fault.PayloadFault.TheVariants.{CutBefore
 use Rattle.luks_payload.specs.declared.state.Step.{Step}
 use Rattle.luks_payload.specs.declared.state.Step.TheVariants.{End}
 use Rattle.luks_access.specs.Opens.{EndsOpening, HasPlaintext, Opens, OpensVolume, Refuses, RefusesVolume, cat_outcome_of}
-use Rattle.luks_access.specs.Opens.{opening_with, payload_image_of}
+use Rattle.luks_access.specs.Opens.{allowed_by, opening_with, payload_image_of}
 use Rattle.luks_access.specs.declared.options.Options.{Options}
 
 -- ---- the plaintext of an open volume
@@ -40,7 +40,7 @@ module _ (options : Options) (header pass : List ℕ) where
   -- what a command does, by how the volume is opened
   outcome_is : (on_opened : OnOpened) (r : Result (Segment × Opened) VolumeFault)
       → (opening_with options header pass).result ≡ r
-      → volume_outcome_by (reader_for options.location) on_opened options.slots header pass
+      → volume_outcome_by (reader_for options.location) on_opened (allowed_by options) header pass
       ≡ outcome_by on_opened (opening_with options header pass).consumed
       (opening_with options header pass).secret_consumed r
   unfolding volume_outcome_by
@@ -49,14 +49,14 @@ module _ (options : Options) (header pass : List ℕ) where
       (opening_with options header pass).secret_consumed) is
 
   cat_by : (image : List ℕ) (v : UnlockedVolume) → Opens options header pass v
-      → HasPlaintext (cat_outcome_of options.location options.slots header image pass) v
+      → HasPlaintext (cat_outcome_of options.location (allowed_by options) header image pass) v
       (payload_image_of options.location header image)
   cat_by image v opens = by options.location (λ on_opened. outcome_is on_opened _ opens)
     where
       by : (location : HeaderLocation) → ((on_opened : OnOpened)
-          → volume_outcome_by (reader_for location) on_opened options.slots header pass
+          → volume_outcome_by (reader_for location) on_opened (allowed_by options) header pass
           ≡ on_opened v.segment (opened_of v) (opening_with options header pass).consumed)
-          → HasPlaintext (cat_outcome_of location options.slots header image pass) v
+          → HasPlaintext (cat_outcome_of location (allowed_by options) header image pass) v
           (payload_image_of location header image)
       by Attached outcome =
           let cat = outcome (payload_outcome Attached header pass) in
@@ -87,23 +87,25 @@ volume_opened options image pass v opens = record {
   cats = λ other. cat_by options image pass other v opens;
   honest = λ plain attached honest.
       let cat = rw attached at (cat_by options image pass image v opens) in
-      let sealed = unsealed options.slots image pass plain honest in
+      let sealed = unsealed (allowed_by options) image pass plain honest in
       (sym cat.0 ∙ sealed.0, ends_whole v.segment image (sym cat.1 ∙ sealed.1));
 }
 
 volume_refused : (options : Options) (image pass : List ℕ) (fault : VolumeFault)
     → (aborts_opening fault ≡ false → Refuses options image pass fault)
     → (fault ≡ Slots Memory → CanBeTried (opening_with options image pass).result)
+    → ((slot kib : ℕ) → fault ≡ Argon2Memory slot kib → CanBeTried (opening_with options image pass).result)
     → ((passphrase : PassphraseFault) → fault ≡ Passphrase passphrase → passphrase ≡ TooLong)
     → RefusesVolume options image pass fault
-volume_refused options image pass fault refuses memory only_long = record {
+volume_refused options image pass fault refuses memory argon2 only_long = record {
   refuses = refuses;
   memory = memory;
+  argon2 = argon2;
   only_long = only_long;
   no_honest = λ plain attached never honest.
       let refused = rw attached at
       (outcome_is options image pass (payload_outcome Attached image pass) (Err fault) (refuses never)) in
-      let sealed = unsealed options.slots image pass plain honest in
+      let sealed = unsealed (allowed_by options) image pass plain honest in
       let done = sym (ap (λ (out : Outcome). out.message) refused) ∙ sealed.1 in
       subst OpeningMessage done (message_says fault).opening;
 }
@@ -121,7 +123,7 @@ ends_opening options image pass (Ok v) left ends only_long = record {
 ends_opening options image pass (Err fault) left ends only_long = record {
   opens = tt;
   refuses = volume_refused options image pass fault (λ never. sym (ends.answer never)) (λ is. ends.memory (ap Err is))
-      only_long;
+      (λ slot kib is. ends.argon2 slot kib (ap Err is)) only_long;
   consumes = ends.consumed;
 }
 
@@ -130,7 +132,7 @@ ends_opening options image pass (Err fault) left ends only_long = record {
 module _ (options : Options) (image pass : List ℕ) where
   same_at_start : opening_with options (take max_loaded_len image) pass ≡ opening_with options image pass
   same_at_start =
-      opening_decided options.location options.slots (take max_loaded_len image) image pass
+      opening_decided options.location (allowed_by options) (take max_loaded_len image) image pass
       (take-take max_loaded_len max_loaded_len image (omega arith))
 
   pub opened_at_start : (v : UnlockedVolume) → OpensVolume options (take max_loaded_len image) pass v
@@ -144,4 +146,6 @@ module _ (options : Options) (image pass : List ℕ) where
       volume_refused options image pass fault
       (λ never. sym (ap (λ (o : VolumeOpening). o.result) same_at_start) ∙ refused.refuses never)
       (λ ran_out. subst (λ (o : VolumeOpening). CanBeTried o.result) same_at_start (refused.memory ran_out))
+      (λ slot kib ran_out. subst (λ (o : VolumeOpening). CanBeTried o.result) same_at_start
+      (refused.argon2 slot kib ran_out))
       refused.only_long

@@ -8,7 +8,7 @@ use Rattle.luks_key_slots.specs.declared.fault.PassphraseFault.TheVariants.{TooL
 use Rattle.luks_key_slots.specs.declared.fault.VolumeFault.{VolumeFault}
 use Rattle.luks_key_slots.specs.declared.fault.VolumeFault.TheVariants as V
 use Rattle.luks_report.specs.Faults.{message_at_end}
-use Rattle.luks_request.specs.declared.command.SlotChoice.{SlotChoice}
+use Rattle.luks_runs.specs.declared.allowed.AllowedSlots.{AllowedSlots}
 use Rattle.luks_runs.specs.Run.{Outcome}
 use Rattle.luks_runs.specs.Location.{detached_header_of, reader_for}
 use Rattle.luks_runs.specs.declared.location.HeaderLocation.{HeaderLocation}
@@ -29,15 +29,22 @@ cipher_of v = (v.segment.mode, v.key)
 abbrev pub plaintext_of : UnlockedVolume → List ℕ → List ℕ
 plaintext_of v image = plain_of v.segment (cipher_of v) image
 
--- how opening ends for every command that opens a volume, with these options and this passphrase
-abbrev pub opening_with : Options → List ℕ → List ℕ → VolumeOpening
-opening_with options header pass = volume_opening_by (reader_for options.location) options.slots header pass
+-- the key slots that these options allow; without Argon2, those that a command with the same options may try
+abbrev pub allowed_by : Options → AllowedSlots
+allowed_by options = record {
+  named = options.slots.named;
+  limits = record { max_iterations = options.slots.max_iterations; argon2 = options.argon2 };
+}
 
--- every such command opens this volume
+-- how opening ends with these options and this passphrase: without Argon2, as for every command that opens a volume
+abbrev pub opening_with : Options → List ℕ → List ℕ → VolumeOpening
+opening_with options header pass = volume_opening_by (reader_for options.location) (allowed_by options) header pass
+
+-- that opens this volume
 abbrev pub Opens : Options → List ℕ → List ℕ → UnlockedVolume → Type 0
 Opens options header pass v = (opening_with options header pass).result ≡ Ok (v.segment, opened_of v)
 
--- every such command reports this fault and writes nothing
+-- that ends with this fault
 abbrev pub Refuses : Options → List ℕ → List ℕ → VolumeFault → Type 0
 Refuses options header pass fault = (opening_with options header pass).result ≡ Err fault
 
@@ -46,8 +53,8 @@ abbrev pub payload_image_of : HeaderLocation → List ℕ → List ℕ → List 
 payload_image_of Attached header image = header
 payload_image_of Detached header image = image
 
--- the outcome of `luksCat`, with an attached header, or with a detached one and this image
-abbrev pub cat_outcome_of : HeaderLocation → SlotChoice → List ℕ → List ℕ → List ℕ → Outcome
+-- the outcome of `luksCat` if it tries these key slots, with an attached header, or with a detached one and this image
+abbrev pub cat_outcome_of : HeaderLocation → AllowedSlots → List ℕ → List ℕ → List ℕ → Outcome
 cat_outcome_of Attached slots header image pass =
     volume_outcome (payload_outcome Attached header pass) slots header pass
 cat_outcome_of Detached slots header image pass =
@@ -58,25 +65,27 @@ abbrev pub HasPlaintext : Outcome → UnlockedVolume → List ℕ → Type 0
 HasPlaintext outcome v image =
     (outcome.output ≡ plaintext_of v image) × (outcome.message ≡ message_at_end (ending_of v.segment image))
 
--- a volume was opened: by every command (`opens`), and so by `luksCat`, which writes its plaintext (`cats`). If it was
+-- a volume was opened (`opens`): what `luksCat` writes of it, from the same volume key, is its plaintext (`cats`). If it was
 -- sealed honestly, with an attached header, that is the plaintext that was sealed, and it is whole (`honest`)
 pub record OpensVolume (options : Options) (header pass : List ℕ) (v : UnlockedVolume) : Type 0 where
   pub opens : Opens options header pass v
-  pub cats : (image : List ℕ) → HasPlaintext (cat_outcome_of options.location options.slots header image pass) v
+  pub cats : (image : List ℕ) → HasPlaintext (cat_outcome_of options.location (allowed_by options) header image pass) v
       (payload_image_of options.location header image)
-  pub honest : (plain : List ℕ) → options.location ≡ Attached → OpensHonest options.slots header pass plain
+  pub honest : (plain : List ℕ) → options.location ≡ Attached → OpensHonest (allowed_by options) header pass plain
       → (plaintext_of v header ≡ plain) × (ending_of v.segment header ≡ Ok End)
 
--- no volume was opened. Unless memory ran out or a read failed, every command ends with this fault (`refuses`), and the
+-- no volume was opened. Unless memory ran out or a read failed, opening ends with this fault (`refuses`), and the
 -- image is no honestly sealed volume, with an attached header, that this passphrase opens (`no_honest`). Memory for the
--- key slots runs out only if some can be tried (`memory`)
+-- key slots runs out only if some can be tried (`memory`), and so does memory for Argon2 (`argon2`)
 pub record RefusesVolume (options : Options) (header pass : List ℕ) (fault : VolumeFault) : Type 0 where
   pub refuses : aborts_opening fault ≡ false → Refuses options header pass fault
   pub memory : fault ≡ V.Slots Memory → CanBeTried (opening_with options header pass).result
+  pub argon2 : (slot memory : ℕ) → fault ≡ V.Argon2Memory slot memory
+      → CanBeTried (opening_with options header pass).result
   -- the passphrase is there and is not read: it can only be too long
   pub only_long : (passphrase : PassphraseFault) → fault ≡ V.Passphrase passphrase → passphrase ≡ TooLong
   pub no_honest : (plain : List ℕ) → options.location ≡ Attached → aborts_opening fault ≡ false
-      → OpensHonest options.slots header pass plain → ⊥
+      → OpensHonest (allowed_by options) header pass plain → ⊥
 
 -- what opening a volume answers, and what it leaves of the bytes of its source: it consumed as many bytes as every such
 -- command consumes to open the volume, or no more than these if a read failed or memory ran out

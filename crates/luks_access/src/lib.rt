@@ -1,9 +1,10 @@
 //! Any part of a volume's plaintext, from an image that is read at offsets.
 //!
-//! A [`Volume`](volume::Volume) is opened by a passphrase as `luksCat` opens it. Each range that it
-//! reads is that part of what `luksCat` writes.
+//! A [`Volume`](volume::Volume) is opened by a passphrase as `luksCat` opens it, or also by key slots
+//! that need Argon2. Each range that it reads is that part of what `luksCat` writes.
 #![tactic(auto)]
 
+pub use luks_header::derivation::Argon2Limits;
 pub use luks_header::fault::HeaderFault;
 pub use luks_header::refusal::SegmentFault;
 pub use luks_key_slots::fault::{OpenFault, PassphraseFault, VolumeFault};

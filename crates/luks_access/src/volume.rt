@@ -14,11 +14,12 @@ ghost use Rattle.luks_access.specs.Opens.{plaintext_of};
 
 use crate::fault::RangeFault;
 use crate::image::ReadAt;
-use crate::options::Options;
+use crate::options::{Options, allowed_by};
 use crate::range::Plaintext;
 use crate::sectors::{payload_ending, plaintext_len};
 use crate::source::{FailedRead, StartSource};
 use crate::step::is_within;
+use luks_argon2_slots::with_argon2::WithArgon2;
 use luks_cipher::ExpandedKeys;
 use luks_header::segment::Segment;
 use luks_io::source::Source;
@@ -58,8 +59,12 @@ impl Volume {
     /// Opens a volume by a passphrase. The source gives the bytes of its image, or of its detached
     /// header.
     ///
-    /// The volume is the one that `luksCat` opens with these options, and a fault is the one that
-    /// `luksCat` reports. A passphrase longer than [`MAX_PASSPHRASE_LEN`] is refused, as a key file
+    /// Key slots that need Argon2 are tried if the options have limits for it, within these limits.
+    /// Memory is asked for when a slot's turn comes. If it is refused, opening ends with
+    /// [`VolumeFault::Argon2Memory`], and no later slot is tried.
+    ///
+    /// Without such limits, the volume is the one that `luksCat` opens with these options, and a
+    /// fault is the one that `luksCat` reports. A passphrase longer than [`MAX_PASSPHRASE_LEN`] is refused, as a key file
     /// is. As many bytes of the source are consumed as `testPassphrase` consumes.
     pub fn open_from<S: Source>(
         alloc: Global,
@@ -72,11 +77,12 @@ impl Volume {
         ensures reads { (ended : Bool) × Reads (has_fault is_read_failure result) ended
             (S.counts source.old) (S.counts source.new) }
     {
-        let mut found = find_volume(alloc, options.location, options.slots, source)?;
+        let mut found = find_volume(alloc, options.location, allowed_by(options), source)?;
         if pass.len() > MAX_PASSPHRASE_LEN {
             return Err(VolumeFault::Passphrase(PassphraseFault::TooLong));
         }
-        let unlocked = try_slots(&mut found, source, pass, &mut Work::new(0))?;
+        let mut derive = WithArgon2::new(alloc);
+        let unlocked = try_slots(&mut found, source, &mut derive, pass, &mut Work::new(0))?;
         let keys = ExpandedKeys::new(unlocked.segment.mode, unlocked.key.as_slice());
         Ok(Volume { unlocked, keys })
     }

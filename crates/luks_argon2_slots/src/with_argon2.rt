@@ -12,6 +12,7 @@ use luks_argon2::{Parameters, derive};
 use luks_header::derivation::{Argon2Parameters, Derivation};
 use luks_kdf::Work;
 use luks_key_slots::derive::{Derive, pbkdf2_key};
+use luks_key_slots::fault::VolumeFault;
 use luks_key_slots::key::Key;
 use std::alloc::Global;
 use std::marker::Model;
@@ -127,6 +128,8 @@ fn parameters_of(parameters: Argon2Parameters) -> Parameters
 impl Derive for WithArgon2 {
     type Fault = MemoryRefused;
 
+    ghost may_fail = { Unit {0} };
+
     ghost derives = { λ _ how pass salt. CanDerive how pass salt };
 
     ghost blocks = { λ w. w };
@@ -147,5 +150,9 @@ impl Derive for WithArgon2 {
             }
             Derivation::Pbkdf2(_, _) => Ok(pbkdf2_key(how, pass, salt, len, work)),
         }
+    }
+
+    fn volume_fault(slot: u8, fault: MemoryRefused) -> VolumeFault {
+        VolumeFault::Argon2Memory(slot, fault.memory_kib)
     }
 }

@@ -10,10 +10,11 @@ use Rattle.luks_cipher.specs.declared.mode.Mode.{Mode}
 use Rattle.luks_cipher.specs.declared.mode.Mode.TheVariants.{XtsPlain64, XtsPlain, CbcEssivSha256, CbcPlain64}
 use Rattle.luks_verdict.specs.Segment.{segment_from}
 use Rattle.luks_verdict.specs.SectorSize.{bytes_of, sector_size_with}
+use Rattle.luks_verdict.specs.declared.derivation.Argon2Limits.{Argon2Limits}
 use Rattle.luks_verdict.specs.declared.sector_size.SectorSize.{SectorSize}
 use Rattle.luks_verdict.specs.declared.segment.Segment.{Segment}
 use Rattle.luks_c.specs.declared.volume.LuksrdVolume.{LuksrdVolume}
-use Rattle.luks_report.specs.Texts.{line_of, status_of}
+use Rattle.luks_report.specs.Texts.{argon2_memory_text, line_of, status_of}
 use Rattle.luks_report.specs.declared.message.Message.{Message}
 use Rattle.luks_report.specs.declared.message.Message.TheVariants.{Done, NotLuks, Cut, Json, SegmentRefused, NoSuchSlot}
 use Rattle.luks_report.specs.declared.message.Message.TheVariants.{SlotDisabled, SlotSkipped, NothingTried, NoKey}
@@ -27,6 +28,7 @@ use Rattle.luks_access.specs.Sectors.{plain_in}
 use Rattle.luks_header_area.specs.Area.{max_loaded_len}
 use Rattle.luks_key_slots.specs.Fault.{aborts_opening, is_read_failure}
 use Rattle.luks_key_slots.specs.declared.fault.VolumeFault.{VolumeFault}
+use Rattle.luks_key_slots.specs.declared.fault.VolumeFault.TheVariants.{Argon2Memory}
 use Rattle.luks_report.specs.Faults.{message_for_payload, message_for_volume}
 use Rattle.luks_payload.specs.declared.fault.PayloadFault.{PayloadFault}
 use Rattle.luks_payload.specs.declared.fault.PayloadFault.TheVariants.{Tail as FaultTail, Short as FaultShort}
@@ -93,6 +95,11 @@ StoresMessage c message =
 abbrev pub StoresCode : LuksrdMessage → ℕ → Type 0
 StoresCode c code = StoresText c (sentence_for code).0 (sentence_for code).1
 
+-- the struct holds the message for this fault; if it is memory that Argon2 needs, with the key slot and the size
+abbrev pub StoresFault : LuksrdMessage → VolumeFault → Type 0
+StoresFault c (Argon2Memory slot memory) = StoresText c 3 (argon2_memory_text slot memory)
+StoresFault c fault = StoresMessage c (message_for_volume fault)
+
 -- the number of the key slot that is named, if one is
 abbrev pub named_in : LuksrdOptions → Option ℕ
 named_in c = if c.has_key_slot == 0 then None else Some c.key_slot
@@ -103,7 +110,7 @@ names_no_slot c = if c.has_key_slot == 0 then false else nat_lt 31 c.key_slot
 
 -- the struct has its size, and zeros in the reserved part
 abbrev pub is_of_this_version : LuksrdOptions → Bool
-is_of_this_version c = c.size == 64 && bytes_eq c.reserved (replicate 44 0)
+is_of_this_version c = c.size == 64 && bytes_eq c.reserved (replicate 32 0)
 
 -- the options name a key slot by a number above 31, or are of another version
 abbrev pub are_bad : LuksrdOptions → Bool
@@ -112,6 +119,17 @@ are_bad c = if is_of_this_version c then names_no_slot c else true
 -- the limit on iterations; 0 means no limit
 abbrev pub limit_in : LuksrdOptions → Option ℕ
 limit_in c = if c.max_iterations == 0 then None else Some c.max_iterations
+
+-- the number, or this one if it is 0
+abbrev pub or_default : ℕ → ℕ → ℕ
+or_default number default = if number == 0 then default else number
+
+-- what Argon2 may cost for a key slot: by default 4 GiB of memory, of which all passes fill 64 GiB
+abbrev pub argon2_limits_in : LuksrdOptions → Option Argon2Limits
+argon2_limits_in c = if c.no_argon2 == 0 then Some record {
+  memory_kib = or_default c.argon2_memory_kib 4194304;
+  fill_kib = or_default c.argon2_fill_mib 65536 * 1024;
+} else None
 
 -- where the header is
 abbrev pub location_in : LuksrdOptions → HeaderLocation
@@ -122,6 +140,7 @@ pub record AreOptions (c : LuksrdOptions) (options : Options) : Type 0 where
   pub location : options.location ≡ location_in c
   pub named : options.slots.named ≡ named_in c
   pub max_iterations : options.slots.max_iterations ≡ limit_in c
+  pub argon2 : options.argon2 ≡ argon2_limits_in c
 
 -- the numbers of `enum luksrd_mode`
 abbrev pub mode_number : Mode → ℕ
@@ -228,8 +247,8 @@ ending_by sector_size size c image_len =
 abbrev pub BeginsAs : List ℕ → List ℕ → Type 0
 BeginsAs image header = take max_loaded_len image ≡ take max_loaded_len header
 
--- a volume was opened: the struct holds it, and `luksCat` opens the same one for each image that starts with these
--- bytes
+-- a volume was opened: the struct holds it, and with these options the same one opens for each image that starts with
+-- these bytes, for `luksCat` if Argon2 is not used
 pub record Opened (c : LuksrdOptions) (header pass : List ℕ) (volume : LuksrdVolume) (message : LuksrdMessage) : Type 0
   where
     pub options : Options
@@ -239,14 +258,14 @@ pub record Opened (c : LuksrdOptions) (header pass : List ℕ) (volume : LuksrdV
     pub opens : (image : List ℕ) → BeginsAs image header → Opens options image pass opened
     pub says : StoresMessage message Done
 
--- a volume was refused: the message is the one that `luksCat` ends with for each image that starts with these bytes, or
--- memory ran out
+-- a volume was refused: for each image that starts with these bytes, opening ends with the fault that the message says,
+-- for `luksCat` if Argon2 is not used; or memory ran out
 pub record Refused (c : LuksrdOptions) (header pass : List ℕ) (code : ℕ) (message : LuksrdMessage) : Type 0 where
   pub options : Options
   pub are : AreOptions c options
   pub fault : VolumeFault
   pub is_code : code ≡ code_for (message_for_volume fault)
-  pub says : StoresMessage message (message_for_volume fault)
+  pub says : StoresFault message fault
   pub read : is_read_failure fault ≡ false
   pub refuses : aborts_opening fault ≡ false → (image : List ℕ) → BeginsAs image header
       → Refuses options image pass fault

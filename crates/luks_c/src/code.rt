@@ -2,14 +2,19 @@
 
 ghost use Rattle.std.specs.Prelude.{◌≡◌};
 ghost use Rattle.luks_c.specs.Keys.{check_code};
-ghost use Rattle.luks_c.specs.Stored.{StoresCode, StoresMessage, code_for, sentence_for};
+ghost use Rattle.luks_report.specs.Faults.{message_for_volume};
+ghost use Rattle.luks_c.specs.Stored.{StoresCode, StoresFault, StoresMessage, code_for, sentence_for};
 
 use crate::message::LuksrdMessage;
 use luks_access::key::KeyCheck;
+use luks_key_slots::fault::VolumeFault;
 use luks_report::message::Message;
 
 /// Success.
 pub(crate) const OK: u32 = 0;
+
+/// Out of memory, or a refusal or an ending that has no number of its own.
+const OUT_OF_MEMORY: u32 = 11;
 
 /// The options name a key slot by a number above 31, or are of another version.
 pub(crate) const BAD_OPTIONS: u32 = 15;
@@ -46,7 +51,7 @@ fn code_of(message: &Message) -> u32
         Message::CutBeforePayload => 12,
         Message::Tail(_) => 13,
         Message::Short(_) => 14,
-        _ => 11,
+        _ => OUT_OF_MEMORY,
     }
 }
 
@@ -68,6 +73,20 @@ pub(crate) fn answer_message(said: &Message, message: &mut LuksrdMessage) -> u32
 {
     message.set(said);
     code_of(said)
+}
+
+/// Stores why a volume is not opened, and returns its number.
+pub(crate) fn answer_fault(fault: VolumeFault, message: &mut LuksrdMessage) -> u32
+    ensures code { result ≡ code_for (message_for_volume fault) }
+    ensures message { StoresFault message.new fault }
+{
+    match fault {
+        VolumeFault::Argon2Memory(slot, memory_kib) => {
+            message.set_argon2_memory(slot, memory_kib);
+            OUT_OF_MEMORY
+        }
+        _ => answer_message(&Message::from(fault), message),
+    }
 }
 
 /// Stores the status and the sentence of a code, and returns the code.

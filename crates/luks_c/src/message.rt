@@ -1,9 +1,11 @@
 //! The messages of luksrd, as C keeps them.
 
 ghost use Rattle.std.specs.Prelude.{◌≡◌, ◌+◌, ◌-◌, drop, length, min, replicate, take};
+ghost use Rattle.luks_report.specs.Texts.{argon2_memory_text};
 ghost use Rattle.luks_c.specs.Stored.{StoresMessage, StoresText};
 
 use luks_report::message::Message;
+use luks_report::wording::argon2_memory_line;
 
 /// The length of the longest sentence in bytes: more than any sentence needs. A zero follows it.
 const CAPACITY: usize = 1015;
@@ -42,6 +44,15 @@ impl LuksrdMessage {
         let end = bytes.len().saturating_sub(1);
         self.status = u32::from(message.status());
         self.len = write_text(&mut self.text, &bytes[..end]);
+    }
+
+    /// Stores that memory which Argon2 needs for a key slot was refused.
+    pub(crate) fn set_argon2_memory(&mut self, slot: u8, memory_kib: u32)
+        ensures { StoresText self.new 3 (argon2_memory_text slot memory_kib) }
+    {
+        let line = argon2_memory_line(slot, memory_kib);
+        self.status = 3;
+        self.len = write_text(&mut self.text, line.as_slice());
     }
 
     /// Stores an exit status and a text.

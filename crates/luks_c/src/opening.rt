@@ -5,7 +5,7 @@ ghost use Rattle.std.specs.Prelude.{◌≡◌, ◌≢◌, MatchOption};
 ghost use Rattle.luks_c.specs.Keys.{AnswersComparing, AnswersOpeningByKey, IsOfKey, check_code};
 ghost use Rattle.luks_c.specs.Stored.{AnswersOpening};
 
-use crate::code::{BAD_OPTIONS, answer_code, answer_message, code_of_check};
+use crate::code::{BAD_OPTIONS, answer_code, answer_fault, answer_message, code_of_check};
 use crate::message::LuksrdMessage;
 use crate::options::{LuksrdOptions, header_in, options_in};
 use crate::volume::LuksrdVolume;
@@ -40,7 +40,7 @@ pub(crate) fn open_volume(
         }
         Err(fault) => {
             volume.clear();
-            answer_message(&Message::from(fault), message)
+            answer_fault(fault, message)
         }
     }
 }

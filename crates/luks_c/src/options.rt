@@ -2,11 +2,13 @@
 
 ghost use Rattle.std.specs.Prelude.{◌≡◌, IfSome, MatchOption, false, true};
 ghost use Rattle.luks_c.specs.Keys.{are_bad_for_a_key};
-ghost use Rattle.luks_c.specs.Stored.{AreOptions, are_bad, is_of_this_version, limit_in};
+ghost use Rattle.luks_c.specs.Stored.{AreOptions, are_bad, argon2_limits_in, is_of_this_version};
+ghost use Rattle.luks_c.specs.Stored.{limit_in, or_default};
 ghost use Rattle.luks_c.specs.Stored.{location_in, named_in, names_no_slot};
 
 use luks_access::options::Options;
 use luks_access::{HeaderLocation, SlotChoice};
+use luks_header::derivation::Argon2Limits;
 
 /// How a volume is opened.
 #[repr(C)]
@@ -21,15 +23,21 @@ pub struct LuksrdOptions {
     pub key_slot: u32,
     /// The maximum number of iterations of a key slot and of a digest, or 0 for no limit.
     pub max_iterations: u32,
+    /// The most memory that Argon2 may need for a key slot, in KiB, or 0 for 4,194,304.
+    pub argon2_memory_kib: u32,
+    /// The most memory that Argon2 may fill in all passes for a key slot, in MiB, or 0 for 65,536.
+    pub argon2_fill_mib: u32,
+    /// Not 0: key slots that need Argon2 are skipped.
+    pub no_argon2: u32,
     /// Always 0.
-    pub reserved: [u8; 44],
+    pub reserved: [u8; 32],
 }
 
 // Whether the struct is of this version: it has its size, and zeros in the reserved part.
 fn is_of_this_version(options: &LuksrdOptions) -> bool
     ensures { result ≡ is_of_this_version options.now }
 {
-    options.size == 64 && options.reserved.as_slice() == [0; 44].as_slice()
+    options.size == 64 && options.reserved.as_slice() == [0; 32].as_slice()
 }
 
 // The key slot that is named, if any is, or `None` if its number is above 31.
@@ -58,6 +66,26 @@ fn max_iterations(options: &LuksrdOptions) -> Option<u32>
     }
 }
 
+// The number, or this one if it is 0.
+fn or_default(number: u32, default: u32) -> u32
+    ensures { result ≡ or_default number default }
+{
+    if number == 0 { default } else { number }
+}
+
+// What Argon2 may cost for a key slot, or `None` if key slots that need it are skipped.
+fn argon2_limits(options: &LuksrdOptions) -> Option<Argon2Limits>
+    ensures { result ≡ argon2_limits_in options.now }
+{
+    if options.no_argon2 != 0 {
+        return None;
+    }
+    Some(Argon2Limits {
+        memory_kib: or_default(options.argon2_memory_kib, 4_194_304),
+        fill_kib: u64::from(or_default(options.argon2_fill_mib, 65_536)) * 1024,
+    })
+}
+
 // Where the header is.
 fn location(options: &LuksrdOptions) -> HeaderLocation
     ensures { result ≡ location_in options.now }
@@ -82,12 +110,14 @@ pub(crate) fn options_in(options: &LuksrdOptions) -> Option<Options>
     let named = named_slot(options)?;
     let location = location(options);
     let max_iterations = max_iterations(options);
+    let argon2 = argon2_limits(options);
     Some(Options {
         location,
         slots: SlotChoice {
             named,
             max_iterations,
         },
+        argon2,
     })
 }
 

@@ -32,7 +32,7 @@ use Rattle.luks_runs.specs.declared.unlocked.UnlockedVolume.{UnlockedVolume}
 use Rattle.luks_runs.specs.declared.location.HeaderLocation.TheVariants.{Attached, Detached}
 use Rattle.luks_runs.specs.Payload.{ForwardsPayload, max_payload_end, with_payload_allowed}
 use Rattle.luks_runs.specs.RunMessages.{IsLuksMessage, PayloadMessage}
-use Rattle.luks_request.specs.declared.command.SlotChoice.{SlotChoice}
+use Rattle.luks_runs.specs.declared.allowed.AllowedSlots.{AllowedSlots}
 use Rattle.luks_report.specs.Texts.{opened_line}
 use Rattle.luks_report.specs.declared.message.Message.{Message}
 use Rattle.luks_report.specs.declared.message.Message.TheVariants.{Done, OutOfMemory, ReadFailed, WriteFailed}
@@ -81,7 +81,7 @@ consumed_no_payload Attached o input image device knows count none = none
 consumed_no_payload Detached o input image device knows count none =
     subst (ConsumedExactly image device) (sym none) (consumed-none image device knows)
 
-module _ (location : HeaderLocation) (slots : SlotChoice) (image pass : List ℕ) (segment : Segment) (opened : Opened)
+module _ (location : HeaderLocation) (slots : AllowedSlots) (image pass : List ℕ) (segment : Segment) (opened : Opened)
     (loaded : List ℕ) (i s : Option (List ℕ))
     (u : Unlocks (unlocking location slots image pass i s) segment opened loaded) where
   -- the line about the key slot was written, whole or in part, or memory for it ran out
@@ -114,7 +114,7 @@ positioned_within segment image count written few less =
     ≤ sectors_of segment image * sector_len segment = mul-le-mul_right (sector_len segment) (omega arith) in
     (omega arith, div-eq_of_lt-le (sector_len segment) (omega arith) (omega arith))
 
-module _ (slots : SlotChoice) (image pass : List ℕ) (segment : Segment) (opened : Opened) (loaded : List ℕ)
+module _ (slots : AllowedSlots) (image pass : List ℕ) (segment : Segment) (opened : Opened) (loaded : List ℕ)
     (i s : Option (List ℕ)) (u : Unlocks (unlocking Attached slots image pass i s) segment opened loaded) where
   -- the payload was forwarded, to its end or not; the image was consumed as far as its source says
   pub runs_forwarded : (left i' w w' : Option (List ℕ)) (message : Message) → PayloadMessage message
@@ -182,7 +182,7 @@ forwarded_at_least s cipher image loaded left before after WriteFailed forwarded
 forwarded_at_least s cipher image loaded left before after message forwarded = (_, omega arith, forwarded.1)
 
 -- after the key slots were tried, the payload was forwarded
-pub counts_forwarded : (slots : SlotChoice) (image pass : List ℕ) (segment : Segment) (opened : Opened)
+pub counts_forwarded : (slots : AllowedSlots) (image pass : List ℕ) (segment : Segment) (opened : Opened)
     (loaded : List ℕ) (s i' w w' : Option (List ℕ)) (trial : Trial) (message : Message)
     → Unlocks (unlocking Attached slots image pass trial.image.after s) segment opened loaded
     → CountsTried Attached slots image pass trial
@@ -215,7 +215,7 @@ payload_consumes_loaded Attached image pass =
 payload_consumes_loaded Detached image pass =
     record { loaded = λ segment opened loaded. omega arith; whole = λ segment opened loaded. refl }
 
-module _ (slots : SlotChoice) (file image pass : List ℕ) (segment : Segment) (opened : Opened) (loaded : List ℕ)
+module _ (slots : AllowedSlots) (file image pass : List ℕ) (segment : Segment) (opened : Opened) (loaded : List ℕ)
     (h s : Option (List ℕ)) (u : Unlocks (unlocking Detached slots file pass h s) segment opened loaded)
     (i' w w' : Option (List ℕ)) where
   -- the payload was forwarded, to its end or not
@@ -308,7 +308,7 @@ nothing_allowed failed ended before after reads = record {
 }
 
 -- the payload was not read: no read-ahead is allowed
-pub none_allowed : (location : HeaderLocation) (slots : SlotChoice) (message : Message)
+pub none_allowed : (location : HeaderLocation) (slots : AllowedSlots) (message : Message)
     (known known_secret : Option (List ℕ)) (failed : Bool) (before after : ReadCounts) → ReadsOnce failed before after
     → ReadsPayload (CatAllows location slots message known known_secret) failed before after
 none_allowed location slots message known known_secret failed before after reads = (
@@ -318,7 +318,7 @@ none_allowed location slots message known known_secret failed before after reads
 )
 
 -- a key was found, and then read-ahead was allowed up to the payload's end
-pub allows_payload : (location : HeaderLocation) (slots : SlotChoice) (message : Message)
+pub allows_payload : (location : HeaderLocation) (slots : AllowedSlots) (message : Message)
     (input secret : Option (List ℕ)) (segment : Segment) (opened : Opened) (loaded : List ℕ)
     (input' secret' : Option (List ℕ)) → PayloadMessage message → IfKnown input (λ known. IfKnown secret
     (λ passphrase. Unlocks (unlocking location slots known passphrase input' secret') segment opened loaded))

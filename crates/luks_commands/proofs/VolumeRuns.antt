@@ -7,11 +7,10 @@ use Rattle.std.proofs.Math.Nat.{zero-div}
 use Rattle.luks_header.specs.Header.{header_read_len, header_of}
 use Rattle.luks_header.proofs.KnownLemmas.{is_attached}
 use Rattle.luks_verdict.specs.declared.segment.Segment.{Segment}
-use Rattle.luks_verdict.specs.Derivation.{without_argon2}
 use Rattle.luks_key_slots.proofs.CallerLemmas.{key_areas_before_payload}
 use Rattle.luks_key_slots.specs.Fault.{aborts_opening, has_fault, is_untried}
 use Rattle.luks_kdf.specs.Pbkdf2.{capped}
-use Rattle.luks_key_slots.specs.Opening.{OrderModel, order_of, work_of}
+use Rattle.luks_key_slots.specs.Opening.{OrderModel, order_within, work_of}
 use Rattle.luks_key_slots.specs.declared.fault.OpenFault.{OpenFault}
 use Rattle.luks_key_slots.specs.declared.fault.PassphraseFault.{PassphraseFault}
 use Rattle.luks_key_slots.specs.declared.fault.VolumeFault.{VolumeFault}
@@ -22,7 +21,7 @@ use Rattle.luks_payload.specs.Plain.{sector_len}
 use Rattle.luks_report.specs.Faults.{message_for_volume}
 use Rattle.luks_report.specs.declared.message.Message.{Message}
 use Rattle.luks_report.specs.declared.message.Message.TheVariants.{OutOfMemory, ReadFailed, WriteFailed}
-use Rattle.luks_request.specs.declared.command.SlotChoice.{SlotChoice}
+use Rattle.luks_runs.specs.declared.allowed.AllowedSlots.{AllowedSlots}
 use Rattle.luks_runs.proofs.RunLemmas.{aborted_unwritten}
 use Rattle.luks_runs.proofs.OpeningLemmas.{area_within, consumed_all, found_within, is_volume, opening_consumed}
 use Rattle.luks_runs.proofs.OpeningLemmas.{opening_found_is, opening_is, opens_unfound}
@@ -44,7 +43,7 @@ use Rattle.luks_commands.specs.Headline.{CountsTried, EndsUntried, PromptCat, Pr
 use Rattle.luks_commands.specs.Unlocking.{EndsLocked, Unlocking, Unlocks}
 
 -- opening a volume from an image and a key file, of which these bytes remained
-abbrev pub unlocking : HeaderLocation → SlotChoice → List ℕ → List ℕ → Option (List ℕ) → Option (List ℕ) → Unlocking
+abbrev pub unlocking : HeaderLocation → AllowedSlots → List ℕ → List ℕ → Option (List ℕ) → Option (List ℕ) → Unlocking
 unlocking location slots image secret image' secret' = record {
   location = location;
   slots = slots;
@@ -77,22 +76,22 @@ prompt_early segment header_len WriteFailed consumed few = omega arith
 prompt_early segment header_len _ consumed few = tt
 
 -- opening a volume with an attached header consumes nothing past the header's end or the payload's start
-before_payload : (slots : SlotChoice) (image pass : List ℕ) (segment : Segment) → HasSegmentBy header_of image segment
+before_payload : (slots : AllowedSlots) (image pass : List ℕ) (segment : Segment) → HasSegmentBy header_of image segment
     → (volume_opening_by header_of slots image pass).consumed ≤ max (header_read_len image) segment.offset
 unfolding volume_opening_by volume_by
 before_payload slots image pass segment (header, found, is_segment) =
-    rw (found, is_segment) (by (order_of header slots.named slots.max_iterations) refl)
+    rw (found, is_segment) (by (order_within header slots.named slots.limits) refl)
   where
-    by : (r : Result OrderModel OpenFault) → order_of header slots.named slots.max_iterations ≡ r
+    by : (r : Result OrderModel OpenFault) → order_within header slots.named slots.limits ≡ r
         → (opening_after image pass (result_map_both (volume_with header segment) Slots r)).consumed
         ≤ max (header_read_len image) segment.offset
     by (Ok order) ordered =
-        let few = key_areas_before_payload header segment slots.named (without_argon2 slots.max_iterations) order
+        let few = key_areas_before_payload header segment slots.named slots.limits order
         (is_attached image header found) is_segment ordered in
         omega (arith, few, (found_within (volume_with header segment order) image pass).1)
     by (Err fault) ordered = omega arith
 
-no_further : (location : HeaderLocation) (slots : SlotChoice) (image pass : List ℕ) (segment : Segment)
+no_further : (location : HeaderLocation) (slots : AllowedSlots) (image pass : List ℕ) (segment : Segment)
     → location ≡ Attached → HasSegmentBy (reader_for location) image segment
     → (volume_opening_by (reader_for location) slots image pass).consumed
     ≤ max (header_read_len image) segment.offset
@@ -100,7 +99,7 @@ no_further Attached slots image pass segment attached has = before_payload slots
 no_further Detached slots image pass segment attached has = absurd cc
 
 -- a run that consumed no more than opening its volume does
-prompt_opening : (location : HeaderLocation) (slots : SlotChoice) (image pass : List ℕ) (message : Message) (a b : ℕ)
+prompt_opening : (location : HeaderLocation) (slots : AllowedSlots) (image pass : List ℕ) (message : Message) (a b : ℕ)
     → a ≤ (volume_opening_by (reader_for location) slots image pass).consumed
     → PromptCat location image message (record { input = a; payload = 0; secret = b }) 0
 prompt_opening Attached slots image pass message a b few = λ segment has.
@@ -117,7 +116,7 @@ unwritten OutOfMemory n opening = refl
 unwritten WriteFailed n opening = absurd opening
 unwritten _ n opening = omega arith
 
-module _ (location : HeaderLocation) (slots : SlotChoice) (image pass : List ℕ) (i s : Option (List ℕ)) where
+module _ (location : HeaderLocation) (slots : AllowedSlots) (image pass : List ℕ) (i s : Option (List ℕ)) where
   abbrev opening : VolumeOpening
   opening = volume_opening_by (reader_for location) slots image pass
 
@@ -173,7 +172,7 @@ module _ (location : HeaderLocation) (slots : SlotChoice) (image pass : List ℕ
     where
       by : (b : Bool) → aborts_opening fault ≡ b → (is_err (volume_by (reader_for location) slots image) ≡ true)
           ⊎ (ends_untried (message_for_volume fault) ≡ true)
-      by true is = inr ((message_says fault).untried ∙ aborted_untried fault is)
+      by true is = inr (aborted_untried fault is)
       by false is = inl (rw (finds.none is) refl)
 
   -- a volume was found
@@ -258,7 +257,7 @@ module _ (location : HeaderLocation) (slots : SlotChoice) (image pass : List ℕ
                         is_volume location slots image pass volume left found,
                         rw same at few.0,
                       );
-                      early = inr ((message_says fault).untried ∙ untried);
+                      early = inr ((message_says fault).untried untried);
                     },
                     few.2,
                   )

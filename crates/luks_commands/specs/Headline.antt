@@ -9,7 +9,8 @@ use Rattle.luks_io.specs.declared.counts.WriteCounts.{WriteCounts}
 use Rattle.luks_io.specs.Devices.{Appended, ConsumedExactly, ConsumedFewer, IfKnown, counted}
 use Rattle.luks_request.specs.Request.{Request, test_passphrase, luks_cat, af_split, secret_of, is_luks, luks_uuid}
 use Rattle.luks_request.specs.Request.{luks_dump, luks_check, af_merge}
-use Rattle.luks_request.specs.declared.command.SlotChoice.{SlotChoice}
+use Rattle.luks_runs.specs.declared.allowed.AllowedSlots.{AllowedSlots}
+use Rattle.luks_runs.specs.Allowed.{pbkdf2_alone}
 use Rattle.luks_runs.specs.Location.{HeaderReader, reader_for, detached_header_of}
 use Rattle.luks_runs.specs.declared.location.HeaderLocation.{HeaderLocation}
 use Rattle.luks_runs.specs.declared.location.HeaderLocation.TheVariants.{Attached, Detached}
@@ -45,9 +46,9 @@ outcome_of location (luks_uuid _) input image secret = print_outcome_by (reader_
 outcome_of location (luks_dump _) input image secret = print_outcome_by (reader_for location) Dump input
 outcome_of location (luks_check _) input image secret = print_outcome_by (reader_for location) Check input
 outcome_of location (test_passphrase o) input image secret =
-    volume_outcome_by (reader_for location) (slot_outcome secret) o.slots input secret
+    volume_outcome_by (reader_for location) (slot_outcome secret) (pbkdf2_alone o.slots) input secret
 outcome_of location (luks_cat o) input image secret =
-    volume_outcome_by (reader_for location) (payload_outcome location image secret) o.slots input secret
+    volume_outcome_by (reader_for location) (payload_outcome location image secret) (pbkdf2_alone o.slots) input secret
 outcome_of location (af_split s) input image secret = split_outcome s.hash s.stripes input secret
 outcome_of location (af_merge m) input image secret = merge_outcome m.hash m.stripes m.key_bytes input
 
@@ -154,21 +155,21 @@ pub record Trial : Type 0 where
 
 -- the key slots of the image's volume were tried: EOF was hit on the key file, and all bytes of the image were
 -- consumed that opening the volume needs
-pub record TriesVolume (location : HeaderLocation) (slots : SlotChoice) (image : List ℕ) (trial : Trial)
+pub record TriesVolume (location : HeaderLocation) (slots : AllowedSlots) (image : List ℕ) (trial : Trial)
     (volume : Volume) : Type 0 where
   pub is_volume : volume_by (reader_for location) slots image ≡ Ok volume
   pub key_file : trial.key_file.after.ends ≡ counted true trial.key_file.before.ends
   pub material : length image < 2 ^ 64 → ConsumedAtLeast image trial.image.after (unlock_read_len image volume)
 
 -- the key slots were tried, and the count of work was raised by the evaluations of HMAC that this costs
-abbrev pub CountsTried : HeaderLocation → SlotChoice → List ℕ → List ℕ → Trial → Type 0
+abbrev pub CountsTried : HeaderLocation → AllowedSlots → List ℕ → List ℕ → Trial → Type 0
 CountsTried location slots image passphrase trial =
     (volume : Volume) × TriesVolume location slots image trial volume
     × (trial.work.after ≡ capped (trial.work.before + work_of volume.order image passphrase))
 
 -- no key slot was tried: EOF was not hit on the key file, or not all bytes were consumed that opening the image's
 -- volume needs. The image has no volume, or the message may come before a key slot is tried
-pub record EndsUntried (location : HeaderLocation) (slots : SlotChoice) (image : List ℕ) (message : Message)
+pub record EndsUntried (location : HeaderLocation) (slots : AllowedSlots) (image : List ℕ) (message : Message)
     (trial : Trial) : Type 0 where
   pub unread : (trial.key_file.after.ends ≡ trial.key_file.before.ends) ⊎ ((volume : Volume)
       × (volume_by (reader_for location) slots image ≡ Ok volume)
@@ -182,7 +183,7 @@ IfInputsKnown trial Holds =
 
 -- if the inputs know their bytes: the key slots were tried, and the count of work was raised by what that costs; or
 -- none was tried, and the count is what it was
-abbrev pub CountsOpening : HeaderLocation → SlotChoice → Message → Trial → Type 0
+abbrev pub CountsOpening : HeaderLocation → AllowedSlots → Message → Trial → Type 0
 CountsOpening location slots message trial = IfInputsKnown trial (λ image passphrase.
     CountsTried location slots image passphrase trial
     ⊎ (EndsUntried location slots image message trial × (trial.work.after ≡ trial.work.before)))
@@ -190,8 +191,8 @@ CountsOpening location slots message trial = IfInputsKnown trial (λ image passp
 -- the evaluations of HMAC that a run of a command needs, if its inputs know their bytes: those of trying the key slots
 -- if they were tried, and none otherwise. A command that opens no volume needs none
 abbrev pub CountsWork : HeaderLocation → Request → Message → Trial → Type 0
-CountsWork location (test_passphrase o) message trial = CountsOpening location o.slots message trial
-CountsWork location (luks_cat o) message trial = CountsOpening location o.slots message trial
+CountsWork location (test_passphrase o) message trial = CountsOpening location (pbkdf2_alone o.slots) message trial
+CountsWork location (luks_cat o) message trial = CountsOpening location (pbkdf2_alone o.slots) message trial
 CountsWork location _ message trial = trial.work.after ≡ trial.work.before
 
 -- ---- `honest`: volumes that are honestly sealed
@@ -200,7 +201,7 @@ CountsWork location _ message trial = trial.work.after ≡ trial.work.before
 abbrev pub WritesPlain : Request → Message → Option (List ℕ) → Option (List ℕ) → Change (Option (List ℕ)) → Type 0
 WritesPlain (luks_cat o) message image secret output =
     IfKnown image (λ known. IfKnown secret (λ passphrase.
-    (plain : List ℕ) → length known < 2 ^ 64 → OpensHonest o.slots known passphrase plain → aborts message ≡ false
+    (plain : List ℕ) → length known < 2 ^ 64 → OpensHonest (pbkdf2_alone o.slots) known passphrase plain → aborts message ≡ false
     → (message ≡ Done) × Appended output.before output.after plain))
 WritesPlain _ message image secret output = Unit {0}
 
@@ -226,8 +227,8 @@ Knows device Holds = (known : List ℕ) × (device ≡ Some known) × Holds know
 -- the command has no second input, or needs none of it: the header, read in this way, the segment, the order of the key
 -- slots or, for `afSplit`, the length of the key to be split ends the run
 abbrev pub NeedsNoSecret : HeaderReader → Request → Option (List ℕ) → Type 0
-NeedsNoSecret read (test_passphrase o) image = Knows image (λ known. is_err (volume_by read o.slots known) ≡ true)
-NeedsNoSecret read (luks_cat o) image = Knows image (λ known. is_err (volume_by read o.slots known) ≡ true)
+NeedsNoSecret read (test_passphrase o) image = Knows image (λ known. is_err (volume_by read (pbkdf2_alone o.slots) known) ≡ true)
+NeedsNoSecret read (luks_cat o) image = Knows image (λ known. is_err (volume_by read (pbkdf2_alone o.slots) known) ≡ true)
 NeedsNoSecret read (af_split s) image = Knows image (λ known. (length known ≡ 0) ⊎ (max_key_len < length known))
 NeedsNoSecret read _ image = Unit {0}
 
@@ -259,14 +260,14 @@ abbrev pub ReadsPayload : (ℕ → Type 0) → Bool → ReadCounts → ReadCount
 ReadsPayload Allows failed before after = (end : ℕ) × Allows end × ReadsOnce failed (allowed_to end before) after
 
 -- under this passphrase a key of the volume is found, and then the command goes on with this segment
-abbrev pub FindsKey : HeaderLocation → SlotChoice → List ℕ → List ℕ → Segment → Type 0
+abbrev pub FindsKey : HeaderLocation → AllowedSlots → List ℕ → List ℕ → Segment → Type 0
 FindsKey location slots image secret segment = (opened : Opened) × (loaded : ℕ) × ((on_opened : OnOpened)
     → volume_outcome_by (reader_for location) on_opened slots image secret ≡ on_opened segment opened loaded)
 
 -- the position of its payload's image up to which `luksCat` allows read-ahead: 0, which is none, if the run surely
 -- ended without a key. If both inputs know their bytes, it is 0 or, under a passphrase that opens the volume, the
 -- payload's end
-abbrev pub CatAllows : HeaderLocation → SlotChoice → Message → Option (List ℕ) → Option (List ℕ) → ℕ → Type 0
+abbrev pub CatAllows : HeaderLocation → AllowedSlots → Message → Option (List ℕ) → Option (List ℕ) → ℕ → Type 0
 CatAllows location slots message input secret end = (EndsWithoutKey message → end ≡ 0)
     × IfKnown input (λ known. IfKnown secret (λ passphrase. (end ≡ 0)
     ⊎ ((segment : Segment) × FindsKey location slots known passphrase segment × (end ≡ max_payload_end segment))))
@@ -275,7 +276,7 @@ CatAllows location slots message input secret end = (EndsWithoutKey message → 
 abbrev pub ReadsImage : HeaderLocation → Request → Message → Option (List ℕ) → Option (List ℕ) → Bool → ReadCounts
     → ReadCounts → Type 0
 ReadsImage location (luks_cat o) message input secret =
-    ReadsPayload (CatAllows location o.slots message input secret)
+    ReadsPayload (CatAllows location (pbkdf2_alone o.slots) message input secret)
 ReadsImage location _ message input secret = ReadsOnce
 
 -- what a part of a run that reads its first input in this way adds to the counts of both inputs: a failure of one of

@@ -2,7 +2,7 @@
 use Rattle.std.specs.Prelude.{◌≡◌, ℕ, max, List, length, Option}
 use Rattle.std.specs.Prelude.{◌≤◌, take, Result, Ok, Err}
 use Rattle.luks_io.specs.Devices.{Appended, ConsumedExactly}
-use Rattle.luks_request.specs.declared.command.SlotChoice.{SlotChoice}
+use Rattle.luks_runs.specs.declared.allowed.AllowedSlots.{AllowedSlots}
 use Rattle.luks_runs.specs.Location.{reader_for}
 use Rattle.luks_runs.specs.declared.location.HeaderLocation.{HeaderLocation}
 use Rattle.luks_runs.specs.declared.location.HeaderLocation.TheVariants.{Attached}
@@ -18,7 +18,7 @@ use Rattle.luks_commands.specs.Headline.{CountsOpening, CountsTried, IfInputsKno
 
 -- the volume was not opened, and the message says why: nothing was written, and the run matches the specified outcome,
 -- whatever the command would do with an open volume
-abbrev pub EndsLocked : HeaderLocation → SlotChoice → List ℕ → List ℕ → Message → Option (List ℕ)
+abbrev pub EndsLocked : HeaderLocation → AllowedSlots → List ℕ → List ℕ → Message → Option (List ℕ)
     → Option (List ℕ) → Type 0
 EndsLocked location slots image secret message image' secret' =
     (on_opened : OnOpened) → ConsumesLoaded secret on_opened → (written : Option (List ℕ))
@@ -28,7 +28,7 @@ EndsLocked location slots image secret message image' secret' =
 -- an opening of a volume: from which bytes, and which of them remained
 pub record Unlocking : Type 0 where
   pub location : HeaderLocation
-  pub slots : SlotChoice
+  pub slots : AllowedSlots
   -- the image, or the file with the header
   pub image : List ℕ
   pub image' : Option (List ℕ)
@@ -49,7 +49,7 @@ pub record Unlocks (from : Unlocking) (segment : Segment) (opened : Opened) (loa
   pub secret_consumed : ConsumedExactly from.secret from.secret' (length from.secret)
 
 -- if the volume was opened, its key slots were tried, and the count of work was raised by what that costs
-abbrev pub CountsUnlocking : {T : Type 0} → HeaderLocation → SlotChoice → Result T VolumeFault → Trial → Type 0
+abbrev pub CountsUnlocking : {T : Type 0} → HeaderLocation → AllowedSlots → Result T VolumeFault → Trial → Type 0
 CountsUnlocking location slots (Ok _) trial =
     IfInputsKnown trial (λ image passphrase. CountsTried location slots image passphrase trial)
 CountsUnlocking location slots (Err fault) trial = CountsOpening location slots (message_for_volume fault) trial

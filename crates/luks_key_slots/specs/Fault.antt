@@ -6,7 +6,7 @@ use Rattle.luks_key_slots.specs.declared.fault.PassphraseFault.{PassphraseFault}
 use Rattle.luks_key_slots.specs.declared.fault.PassphraseFault.TheVariants.{Read as PassphraseRead}
 use Rattle.luks_key_slots.specs.declared.fault.PassphraseFault.TheVariants.{Memory as PassphraseMemory}
 use Rattle.luks_key_slots.specs.declared.fault.VolumeFault.{VolumeFault}
-use Rattle.luks_key_slots.specs.declared.fault.VolumeFault.TheVariants.{Header, Passphrase, Slots}
+use Rattle.luks_key_slots.specs.declared.fault.VolumeFault.TheVariants.{Argon2Memory, Header, Passphrase, Slots}
 
 -- a read of the passphrase failed
 abbrev pub is_passphrase_read_failure : PassphraseFault → Bool
@@ -26,11 +26,13 @@ aborts_opening (Header HeaderMemory) = true
 aborts_opening (Passphrase PassphraseRead) = true
 aborts_opening (Passphrase PassphraseMemory) = true
 aborts_opening (Slots Memory) = true
+aborts_opening (Argon2Memory _ _) = true
 aborts_opening _ = false
 
 -- the fault was found before any key slot was tried
 abbrev pub is_untried : VolumeFault → Bool
 is_untried (Slots (NoKey _)) = false
+is_untried (Argon2Memory _ _) = false
 is_untried _ = true
 
 -- the result is a fault of this kind

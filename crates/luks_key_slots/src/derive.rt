@@ -6,6 +6,7 @@ ghost use Rattle.luks_verdict.specs.declared.derivation.Derivation.{Derivation};
 ghost use Rattle.luks_key_slots.specs.Candidate.{derived_by};
 ghost use Rattle.luks_key_slots.specs.Deriving.{IsPbkdf2, blocks_by, evaluations_by};
 
+use crate::fault::VolumeFault;
 use crate::key::Key;
 use luks_header::derivation::Derivation;
 use luks_kdf::Work;
@@ -14,6 +15,9 @@ use luks_kdf::Work;
 pub trait Derive {
     /// Why a key is not derived.
     type Fault;
+
+    /// Whether there can be such a fault.
+    ghost may_fail: { Type 0 };
 
     /// Whether it derives a key in this way, from this passphrase and salt.
     ghost derives: { Self → Derivation → List ℕ → List ℕ → Type 0 };
@@ -44,6 +48,11 @@ pub trait Derive {
         ensures still { (other : Derivation) → (password other_salt : List ℕ)
             → derives self.old other password other_salt
             → derives self.new other password other_salt };
+
+    /// The fault of opening a volume if the key of this slot is not derived: its memory was refused.
+    fn volume_fault(slot: u8, fault: Self::Fault) -> VolumeFault
+        ensures memory { (memory : ℕ) × (result ≡ VolumeFault.Argon2Memory slot memory) }
+        ensures may_fail { may_fail };
 }
 
 /// What never is.
@@ -55,6 +64,8 @@ pub struct Pbkdf2Alone;
 
 impl Derive for Pbkdf2Alone {
     type Fault = Never;
+
+    ghost may_fail = { ⊥ };
 
     ghost derives = { λ _ how _ _. IsPbkdf2 how };
 
@@ -69,6 +80,10 @@ impl Derive for Pbkdf2Alone {
         work: &mut Work,
     ) -> Result<Key, Never> {
         Ok(pbkdf2_key(how, pass, salt, len, work))
+    }
+
+    fn volume_fault(_slot: u8, fault: Never) -> VolumeFault {
+        match fault {}
     }
 }
 

@@ -21,6 +21,8 @@ pub enum VolumeFault {
     KeyAreaCut,
     /// No key slot opens, or memory for key slots or digests ran out.
     Slots(OpenFault),
+    /// The memory that Argon2 needs for the key slot with this number was refused: so much in KiB.
+    Argon2Memory(u8, u32),
 }
 
 /// Why a passphrase was not read.

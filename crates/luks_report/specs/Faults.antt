@@ -11,6 +11,7 @@ use Rattle.luks_key_slots.specs.declared.fault.PassphraseFault.TheVariants.{TooL
 use Rattle.luks_key_slots.specs.declared.fault.PassphraseFault.TheVariants.{Memory as PassphraseMemory}
 use Rattle.luks_key_slots.specs.declared.fault.VolumeFault.{VolumeFault}
 use Rattle.luks_key_slots.specs.declared.fault.VolumeFault.TheVariants.{Header, Segment, Passphrase, KeyAreaCut, Slots}
+use Rattle.luks_key_slots.specs.declared.fault.VolumeFault.TheVariants.{Argon2Memory}
 use Rattle.luks_payload.specs.declared.fault.PayloadFault.{PayloadFault}
 use Rattle.luks_payload.specs.declared.fault.PayloadFault.TheVariants.{CutBeforePayload, Tail, Short, Read, Write}
 use Rattle.luks_payload.specs.declared.state.Step.{Step}
@@ -47,6 +48,7 @@ message_for_volume (Segment fault) = M.SegmentRefused fault
 message_for_volume (Passphrase fault) = message_for_passphrase fault
 message_for_volume KeyAreaCut = M.Cut
 message_for_volume (Slots fault) = message_for_slots fault
+message_for_volume (Argon2Memory _ _) = M.OutOfMemory
 
 -- the message if forwarding the payload failed, or the payload is not whole
 abbrev pub message_for_payload : PayloadFault → Message

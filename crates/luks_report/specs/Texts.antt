@@ -117,6 +117,11 @@ check_of header = if length (findings_of header) == 0 then codes "clean" ++ 10 �
 unfoldable pub message_for_check : Header → Message
 message_for_check header = if length (findings_of header) == 0 then Done else Findings
 
+-- the text about memory that Argon2 needs for a key slot and does not get
+abbrev pub argon2_memory_text : ℕ → ℕ → List ℕ
+argon2_memory_text slot memory =
+    codes "luksrd: out of memory: Argon2 needs " ++ decimal memory ++ codes " KiB for key slot " ++ decimal slot
+
 -- the message of a part of a run
 abbrev pub result_message : {T : Type 0} → Result T Message → Message
 result_message (Ok _) = Done

@@ -90,6 +90,7 @@ impl From<VolumeFault> for Message {
             VolumeFault::Passphrase(fault) => Message::from(fault),
             VolumeFault::KeyAreaCut => Message::Cut,
             VolumeFault::Slots(fault) => Message::from(fault),
+            VolumeFault::Argon2Memory(_, _) => Message::OutOfMemory,
         }
     }
 }

@@ -14,4 +14,4 @@ pub mod message_line;
 pub mod report;
 pub mod usage;
 pub mod volume_opened;
-mod wording;
+pub mod wording;

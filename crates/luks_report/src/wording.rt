@@ -5,7 +5,7 @@ ghost use Rattle.std.specs.Prelude.{length, take};
 ghost use Rattle.luks_io.specs.Counts.{Writes};
 ghost use Rattle.luks_io.specs.Devices.{Appended};
 ghost use Rattle.luks_report.specs.Texts.{message_line, line_of, more_skips_text, skip_text};
-ghost use Rattle.luks_report.specs.Texts.{skips_text};
+ghost use Rattle.luks_report.specs.Texts.{argon2_memory_text, skips_text};
 
 use crate::message::Message;
 use crate::message_line::Line;
@@ -66,6 +66,18 @@ impl Message {
             Message::WriteFailed => sentence("write failed", ""),
         }
     }
+}
+
+/// The text about memory that Argon2 needs for a key slot and does not get. It has no newline.
+pub fn argon2_memory_line(slot: u8, memory_kib: u32) -> Line
+    ensures { result ≡ argon2_memory_text slot memory_kib }
+{
+    let mut whole = Line::new();
+    whole.push("luksrd: out of memory: Argon2 needs ");
+    whole.push_number(u64::from(memory_kib));
+    whole.push(" KiB for key slot ");
+    whole.push_number(u64::from(slot));
+    whole
 }
 
 // A text as it is.

@@ -33,6 +33,7 @@ use Rattle.luks_verdict.specs.declared.slot.Slot.{Slot}
 use Rattle.luks_header.specs.HeaderSegment.{segment_of}
 use Rattle.luks_header.specs.declared.header.Header.{Header}
 use Rattle.luks_verdict.specs.Derivation.{without_argon2}
+use Rattle.luks_verdict.specs.declared.derivation.Limits.{Limits}
 use Rattle.luks_header.proofs.KnownLemmas.{is_attached, known_usable, same_slot}
 use Rattle.luks_key_slots.specs.Candidate.{decrypted_material, material_sector, recovered, candidate_of, matches_digest}
 use Rattle.luks_key_slots.specs.Opening.{first_opening, slot_key, opening_of}
@@ -49,7 +50,7 @@ use Rattle.luks_seal.proofs.MaterialLemmas.{derived_bytes, hash_bytes}
 use Rattle.luks_seal.specs.Sealed.{EndsWith, GivesKey, IsDigestOf, IsStoredEncrypted, Sealed, SealsKey, SealsPlain}
 use Rattle.luks_report.specs.Faults.{message_at_end}
 use Rattle.luks_report.specs.declared.message.Message.TheVariants.{Done}
-use Rattle.luks_request.specs.declared.command.SlotChoice.{SlotChoice}
+use Rattle.luks_runs.specs.declared.allowed.AllowedSlots.{AllowedSlots}
 use Rattle.luks_runs.specs.Run.{Outcome}
 use Rattle.luks_runs.specs.declared.location.HeaderLocation.TheVariants.{Attached}
 use Rattle.luks_runs.specs.KeyFile.{max_key_file_len}
@@ -169,13 +170,13 @@ module _ (passphrase key image : List ℕ) where
       parts.value).1 (sym is.value))
 
   -- a sealed key slot opens under its passphrase and gives the key
-  key_again : (header : Header) (segment : Segment) (limit : Option ℕ) (entry : Entry)
-      → segment_of header ≡ Ok segment → IsOf header (without_argon2 limit) entry
+  key_again : (header : Header) (segment : Segment) (limits : Limits) (entry : Entry)
+      → segment_of header ≡ Ok segment → IsOf header limits entry
       → SealsKey header image key entry.number passphrase → slot_key entry image passphrase ≡ Some key
   unfolding slot_key
-  key_again header segment limit entry is_segment is seals =
+  key_again header segment limits entry is_segment is seals =
       let same : entry.slot ≡ seals.slot =
-      same_slot header (without_argon2 limit) (without_argon2 None) entry.number entry.slot seals.slot is.usable
+      same_slot header limits (without_argon2 None) entry.number entry.slot seals.slot is.usable
       seals.usable in
       let known = known_usable header segment (without_argon2 None) entry.number seals.slot is_segment seals.usable in
       let some = rw seals.gives.key_bytes at (some_key segment.mode seals.slot.parts.key_bytes known.volume_key) in
@@ -220,7 +221,7 @@ in_the_middle : {X : Type 0} (P : X → Type 0) (before : List X) (x : X) (after
 in_the_middle P [] x after all = all.0
 in_the_middle P (y ∷ before) x after all = in_the_middle P before x after all.1
 
-module _ (slots : SlotChoice) (image passphrase plain : List ℕ)
+module _ (slots : AllowedSlots) (image passphrase plain : List ℕ)
     (honest : OpensHonest slots image passphrase plain) where
   abbrev volume : Volume
   volume = record { header = honest.sealed.header; segment = honest.sealed.segment; order = honest.order }
@@ -231,13 +232,13 @@ module _ (slots : SlotChoice) (image passphrase plain : List ℕ)
   opens =
       let sealed = honest.sealed in
       let first = honest.first in
-      let limits = without_argon2 slots.max_iterations in
+      let limits = slots.limits in
       let tried = All-order sealed.header slots.named limits honest.order honest.is_order in
       let is = in_the_middle (IsOf sealed.header limits) first.before first.entry first.after
       (subst (AllByRecursion (IsOf sealed.header limits)) first.are tried) in
       let seals = sealed_with image honest.key plain passphrase honest.passphrases honest.number sealed
       honest.is_passphrase in
-      let gives = key_again passphrase honest.key image sealed.header sealed.segment slots.max_iterations first.entry
+      let gives = key_again passphrase honest.key image sealed.header sealed.segment slots.limits first.entry
       sealed.is_segment is
       (subst (λ (n : ℕ). SealsKey sealed.header image honest.key n passphrase) (sym first.is_number) seals) in
       let found = first_again first.before first.entry first.after image passphrase honest.key
@@ -254,7 +255,7 @@ module _ (slots : SlotChoice) (image passphrase plain : List ℕ)
   opened_is =
       let sealed = honest.sealed in
       let before = key_areas_before_payload sealed.header sealed.segment slots.named
-      (without_argon2 slots.max_iterations) honest.order
+      slots.limits honest.order
       (is_attached image sealed.header sealed.is_header) sealed.is_segment honest.is_order in
       let within : key_material_end honest.order.entries ≤ length image =
       omega (arith, before, sealed.payload.is_stored.there) in
@@ -280,10 +281,10 @@ module _ (slots : SlotChoice) (image passphrase plain : List ℕ)
       )
 
 -- a sealed volume is honest for a passphrase of the named key slot, which is no longer than a key file may be, if there
--- is no limit on iterations
-pub named_is_honest : (slots : SlotChoice) (image passphrase plain key : List ℕ) (passphrases : List (ℕ × List ℕ))
+-- is no limit on iterations, and Argon2 is not used
+pub named_is_honest : (slots : AllowedSlots) (image passphrase plain key : List ℕ) (passphrases : List (ℕ × List ℕ))
     (number : ℕ) → Sealed image passphrases key plain → Contains passphrases (number, passphrase)
-    → length passphrase ≤ max_key_file_len → slots.named ≡ Some number → slots.max_iterations ≡ None
+    → length passphrase ≤ max_key_file_len → slots.named ≡ Some number → slots.limits ≡ without_argon2 None
     → OpensHonest slots image passphrase plain
 unfolding order_within
 named_is_honest slots image passphrase plain key passphrases number sealed is short named unlimited =

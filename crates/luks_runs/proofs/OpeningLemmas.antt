@@ -23,10 +23,10 @@ use Rattle.luks_key_slots.specs.declared.fault.PassphraseFault.TheVariants.{TooL
 use Rattle.luks_key_slots.specs.declared.fault.PassphraseFault.TheVariants.{Memory as PassphraseMemory}
 use Rattle.luks_key_slots.specs.declared.fault.VolumeFault.{VolumeFault}
 use Rattle.luks_key_slots.specs.declared.fault.VolumeFault.TheVariants.{Header as HeaderNotRead, KeyAreaCut, Passphrase}
-use Rattle.luks_key_slots.specs.declared.fault.VolumeFault.TheVariants.{Slots}
+use Rattle.luks_key_slots.specs.declared.fault.VolumeFault.TheVariants.{Argon2Memory, Segment as SegmentRefused, Slots}
 use Rattle.luks_key_slots.proofs.CallerLemmas.{opening_prefix, work_prefix}
 use Rattle.luks_key_slots.specs.declared.opening.Opened.{Opened}
-use Rattle.luks_request.specs.declared.command.SlotChoice.{SlotChoice}
+use Rattle.luks_runs.specs.declared.allowed.AllowedSlots.{AllowedSlots}
 use Rattle.luks_runs.proofs.RunLemmas.{header_read_len_within}
 use Rattle.luks_runs.proofs.VolumeLemmas.{volume_is}
 use Rattle.luks_runs.specs.Location.{reader_for}
@@ -36,7 +36,7 @@ use Rattle.luks_runs.specs.Volume.{FindsNoVolume, OnOpened, volume_by}
 use Rattle.luks_runs.specs.Volume.{ConsumesLoaded, Volume, VolumeOpening, opening_found, opening_tried, slot_outcome}
 use Rattle.luks_runs.specs.Volume.{unlock_read_len, volume_opening_by, outcome_after, outcome_by, opening_after}
 use Rattle.luks_runs.specs.Volume.{CanBeTried, ConsumedUnless, ConsumesMaterial, CountsTrials, FoundIn, IsLoaded, OpeningMatches}
-use Rattle.luks_runs.specs.Volume.{TriesSlots, described, opened_of, opened_result}
+use Rattle.luks_runs.specs.Volume.{RefusedOnlyIf, TriesSlots, UnlessRefused, described, opened_of, opened_result}
 use Rattle.luks_runs.specs.declared.unlocked.UnlockedVolume.{UnlockedVolume}
 use Rattle.luks_key_slots.specs.declared.fault.PassphraseFault.{PassphraseFault}
 use Rattle.luks_runs.specs.declared.found.FoundVolume.{FoundVolume}
@@ -144,7 +144,7 @@ load_aborts fault only = elim only [ inl read ↦ rw read refl | inr memory ↦ 
 
 -- ---- opening the volume of an image
 
-module _ (location : HeaderLocation) (slots : SlotChoice) (image pass : List ℕ) where
+module _ (location : HeaderLocation) (slots : AllowedSlots) (image pass : List ℕ) where
   abbrev opening : VolumeOpening
   opening = volume_opening_by (reader_for location) slots image pass
 
@@ -197,6 +197,7 @@ module _ (location : HeaderLocation) (slots : SlotChoice) (image pass : List ℕ
   opens_unfound fault left finds = record {
     answer = λ never. sym (ap (λ (o : VolumeOpening). o.result) (opening_is (Err fault) (finds.none never)));
     memory = λ is. let same : fault ≡ Slots Memory = cc in tried_if_found (finds.memory same);
+    argon2 = λ slot memory is. absurd (finds.no_argon2 slot memory (let same : fault ≡ Argon2Memory slot memory = cc in same));
     consumed = by (aborts_opening fault)
         (λ never. ap (λ (o : VolumeOpening). o.consumed) (opening_is (Err fault) (finds.none never))) finds.consumed;
   }
@@ -221,18 +222,30 @@ module _ (location : HeaderLocation) (slots : SlotChoice) (image pass : List ℕ
         → OpeningMatches opening image (Err (Passphrase fault)) left
         × ConsumedUnless (aborts_opening (Passphrase fault)) pass secret' opening.secret_consumed
     opens_unread secret' TooLong stop =
-        rw (opening_found_is ∙ found_long (described volume) image pass stop.0)
-        (record { answer = λ never. refl; memory = λ is. tt; consumed = found.consumed }, stop.1)
+        rw (opening_found_is ∙ found_long (described volume) image pass stop.0) (
+          record { answer = λ never. refl; memory = λ is. tt; argon2 = λ slot memory is. tt; consumed = found.consumed },
+          stop.1,
+        )
     opens_unread secret' PassphraseMemory stop =
         let within = found_within (described volume) image pass in
         rw opening_found_is (
-          record { answer = λ never. absurd cc; memory = λ is. absurd cc; consumed = (_, within.0, found.consumed) },
+          record {
+            answer = λ never. absurd cc;
+            memory = λ is. absurd cc;
+            argon2 = λ slot memory is. absurd cc;
+            consumed = (_, within.0, found.consumed);
+          },
           (stop.0, omega (arith, stop.1, within.2), stop.2),
         )
     opens_unread secret' PassphraseRead stop =
         let within = found_within (described volume) image pass in
         rw opening_found_is (
-          record { answer = λ never. absurd cc; memory = λ is. absurd cc; consumed = (_, within.0, found.consumed) },
+          record {
+            answer = λ never. absurd cc;
+            memory = λ is. absurd cc;
+            argon2 = λ slot memory is. absurd cc;
+            consumed = (_, within.0, found.consumed);
+          },
           (stop.0, omega (arith, stop.1, within.2), stop.2),
         )
 
@@ -261,6 +274,7 @@ module _ (location : HeaderLocation) (slots : SlotChoice) (image pass : List ℕ
             rw opening_found_is (record {
               answer = λ never. absurd cc;
               memory = λ is. absurd cc;
+              argon2 = λ slot memory is. absurd cc;
               consumed = rw aborted (length area', omega (arith, few, within.0, all.within), all);
             })
 
@@ -268,7 +282,7 @@ module _ (location : HeaderLocation) (slots : SlotChoice) (image pass : List ℕ
         opens_cut cut =
             let all = area_whole image area' i start (consumes.cut cut _ found.consumed.left found.ended) in
             rw (opening_found_is ∙ found_cut (described volume) image pass short (omega (arith, all.0, few)))
-            (record { answer = λ never. refl; memory = λ is. tt; consumed = all.1 })
+            (record { answer = λ never. refl; memory = λ is. tt; argon2 = λ slot memory is. tt; consumed = all.1 })
 
       -- all of it was loaded
       module _ (enough : areas_end ≤ length area') where
@@ -303,7 +317,23 @@ module _ (location : HeaderLocation) (slots : SlotChoice) (image pass : List ℕ
               answer = λ never. is
                   ∙ ap (result_map_both (λ opened. (volume.segment, opened)) Slots) (sym whole);
               memory = λ ran_out. can;
+              argon2 = λ slot memory ran_out. can;
               consumed = consumed_all (has_fault aborts_opening tried) image i _ all.1;
+            })
+
+        -- the key slots can be tried, and memory for one was refused
+        opens_refused : length pass ≤ max_key_file_len → (slot memory : ℕ)
+            → OpeningMatches opening image (Err (Argon2Memory slot memory)) i
+        opens_refused short slot memory =
+            let all = area_loaded image area' i start _ len in
+            let as_tried = opening_found_is ∙ found_whole (described volume) image pass short long in
+            let can = subst (λ (o : VolumeOpening). CanBeTried o.result) as_tried (tried_if_found (rw is_volume refl))
+            in
+            rw as_tried (record {
+              answer = λ never. absurd cc;
+              memory = λ ran_out. can;
+              argon2 = λ its_slot its_memory ran_out. can;
+              consumed = consumed_all true image i _ all.1;
             })
 
       -- opening the volume ended as specified
@@ -317,6 +347,7 @@ module _ (location : HeaderLocation) (slots : SlotChoice) (image pass : List ℕ
               opens_tried tries.0 short (Ok (opened_of opened)) tries.2 (Ok opened) (rw tries.1 refl)
           by (Err (Slots fault)) is tries =
               opens_tried tries.0 short (Err fault) tries.1 (Err (Slots fault)) refl
+          by (Err (Argon2Memory slot memory)) is enough = opens_refused enough short slot memory
           by (Err KeyAreaCut) is few = opens_cut few short is
           by (Err (HeaderNotRead fault)) is tries = opens_aborted tries.0 short fault (load_aborts fault tries.1)
           by (Err _) is never = absurd never
@@ -340,3 +371,16 @@ module _ (location : HeaderLocation) (slots : SlotChoice) (image pass : List ℕ
         | inr few ↦
             inr ((length area', omega (arith, few.0), start_consumed image area' i start), few.1, few.2)
       ]
+
+-- ---- memory for Argon2
+
+-- what holds unless memory for Argon2 was refused does, if it cannot be refused
+pub counts_given : {T : Type 0} (result : Result T VolumeFault) (Counts : Type 0) → RefusedOnlyIf ⊥ result
+    → UnlessRefused result Counts → Counts
+counts_given (Err (Argon2Memory slot memory)) Counts may_fail counts = absurd may_fail
+counts_given (Ok _) Counts may_fail counts = counts
+counts_given (Err (HeaderNotRead _)) Counts may_fail counts = counts
+counts_given (Err (SegmentRefused _)) Counts may_fail counts = counts
+counts_given (Err (Passphrase _)) Counts may_fail counts = counts
+counts_given (Err KeyAreaCut) Counts may_fail counts = counts
+counts_given (Err (Slots _)) Counts may_fail counts = counts

@@ -9,7 +9,7 @@ use Rattle.luks_header.proofs.HorizonLemmas.{header_of_start}
 use Rattle.luks_key_slots.specs.Opening.{key_material_end}
 use Rattle.luks_key_slots.proofs.CallerLemmas.{opening_prefix, key_material_end-within}
 use Rattle.luks_key_slots.specs.declared.fault.VolumeFault.{VolumeFault}
-use Rattle.luks_request.specs.declared.command.SlotChoice.{SlotChoice}
+use Rattle.luks_runs.specs.declared.allowed.AllowedSlots.{AllowedSlots}
 use Rattle.luks_runs.specs.Location.{reader_for, as_detached}
 use Rattle.luks_runs.specs.declared.location.HeaderLocation.{HeaderLocation}
 use Rattle.luks_runs.specs.Volume.{volume_by, volume_in_header, volume_opening_by}
@@ -18,7 +18,7 @@ use Rattle.luks_runs.specs.declared.location.HeaderLocation.TheVariants.{Attache
 
 -- ---- opening by the first bytes
 
-module _ (location : HeaderLocation) (slots : SlotChoice) (image pass : List ℕ) (n : ℕ) (far : max_loaded_len ≤ n)
+module _ (location : HeaderLocation) (slots : AllowedSlots) (image pass : List ℕ) (n : ℕ) (far : max_loaded_len ≤ n)
     (more : n ≤ length image) where
   same_header : (header_of (take n image) ≡ header_of image) × (header_read_len (take n image) ≡ header_read_len image)
   same_header = header_of_start image n (omega arith) more
@@ -49,7 +49,7 @@ module _ (location : HeaderLocation) (slots : SlotChoice) (image pass : List ℕ
       ∙ after_prefix (volume_in_header slots (reader_for location image))
 
 -- the same for the first bytes of any image
-volume_prefix : (location : HeaderLocation) (slots : SlotChoice) (image pass : List ℕ)
+volume_prefix : (location : HeaderLocation) (slots : AllowedSlots) (image pass : List ℕ)
     → volume_opening_by (reader_for location) slots (take max_loaded_len image) pass
     ≡ volume_opening_by (reader_for location) slots image pass
 volume_prefix location slots image pass = elim (cases_lt max_loaded_len (length image)) [
@@ -58,7 +58,7 @@ volume_prefix location slots image pass = elim (cases_lt max_loaded_len (length 
 ]
 
 -- images with the same first bytes open in the same way
-pub opening_decided : (location : HeaderLocation) (slots : SlotChoice) (a b pass : List ℕ)
+pub opening_decided : (location : HeaderLocation) (slots : AllowedSlots) (a b pass : List ℕ)
     → take max_loaded_len a ≡ take max_loaded_len b
     → volume_opening_by (reader_for location) slots a pass ≡ volume_opening_by (reader_for location) slots b pass
 opening_decided location slots a b pass same =

@@ -17,7 +17,7 @@ use Rattle.luks_header.specs.Header.{ReadsNoHeader, header_read_len}
 use Rattle.luks_header.proofs.KnownLemmas.{memory_below}
 use Rattle.luks_header.specs.HeaderSegment.{segment_of}
 use Rattle.luks_header.specs.declared.header.Header.{Header}
-use Rattle.luks_key_slots.specs.Opening.{OrderModel, order_of}
+use Rattle.luks_key_slots.specs.Opening.{OrderModel, order_within}
 use Rattle.luks_key_slots.specs.declared.fault.OpenFault.{OpenFault}
 use Rattle.luks_key_slots.specs.Fault.{aborts_opening, is_read_failure, is_untried}
 use Rattle.luks_key_slots.specs.declared.fault.OpenFault.TheVariants.{Disabled, Memory, NamedSkipped, NoKey, NoSuchSlot}
@@ -26,9 +26,9 @@ use Rattle.luks_key_slots.specs.declared.fault.PassphraseFault.TheVariants.{TooL
 use Rattle.luks_key_slots.specs.declared.fault.PassphraseFault.TheVariants.{Memory as PassphraseMemory}
 use Rattle.luks_key_slots.specs.declared.fault.VolumeFault.{VolumeFault}
 use Rattle.luks_key_slots.specs.declared.fault.VolumeFault.TheVariants.{Header as HeaderNotRead, KeyAreaCut, Passphrase}
-use Rattle.luks_key_slots.specs.declared.fault.VolumeFault.TheVariants.{Segment as SegmentRefused, Slots}
+use Rattle.luks_key_slots.specs.declared.fault.VolumeFault.TheVariants.{Argon2Memory, Segment as SegmentRefused, Slots}
 use Rattle.luks_report.specs.Faults.{message_for_volume}
-use Rattle.luks_request.specs.declared.command.SlotChoice.{SlotChoice}
+use Rattle.luks_runs.specs.declared.allowed.AllowedSlots.{AllowedSlots}
 use Rattle.luks_runs.proofs.RunLemmas.{reading_fault}
 use Rattle.luks_runs.specs.Run.{aborts, is_run_read_failure}
 use Rattle.luks_runs.specs.Location.{LoadedFrom, reader_for}
@@ -49,31 +49,38 @@ none_remain area left left' counts counts' known rest loaded knows there ended =
 pub record SaysAsMuch (fault : VolumeFault) : Type 0 where
   pub opening : OpeningMessage (message_for_volume fault)
   pub read : is_read_failure fault ≡ is_run_read_failure (message_for_volume fault)
-  pub untried : ends_untried (message_for_volume fault) ≡ is_untried fault
+  pub untried : is_untried fault ≡ true → ends_untried (message_for_volume fault) ≡ true
   pub aborted : aborts_opening fault ≡ aborts (message_for_volume fault)
 
 pub message_says : (fault : VolumeFault) → SaysAsMuch fault
-message_says (HeaderNotRead NotLuks) = record { opening = tt; read = refl; untried = refl; aborted = refl }
-message_says (HeaderNotRead HeaderCut) = record { opening = tt; read = refl; untried = refl; aborted = refl }
-message_says (HeaderNotRead Json) = record { opening = tt; read = refl; untried = refl; aborted = refl }
-message_says (HeaderNotRead HeaderRead) = record { opening = tt; read = refl; untried = refl; aborted = refl }
-message_says (HeaderNotRead HeaderMemory) = record { opening = tt; read = refl; untried = refl; aborted = refl }
-message_says (SegmentRefused _) = record { opening = tt; read = refl; untried = refl; aborted = refl }
-message_says (Passphrase TooLong) = record { opening = tt; read = refl; untried = refl; aborted = refl }
-message_says (Passphrase PassphraseRead) = record { opening = tt; read = refl; untried = refl; aborted = refl }
-message_says (Passphrase PassphraseMemory) = record { opening = tt; read = refl; untried = refl; aborted = refl }
-message_says KeyAreaCut = record { opening = tt; read = refl; untried = refl; aborted = refl }
-message_says (Slots (NoSuchSlot _)) = record { opening = tt; read = refl; untried = refl; aborted = refl }
-message_says (Slots (Disabled _)) = record { opening = tt; read = refl; untried = refl; aborted = refl }
-message_says (Slots (NamedSkipped _ _)) = record { opening = tt; read = refl; untried = refl; aborted = refl }
-message_says (Slots (NothingTried _)) = record { opening = tt; read = refl; untried = refl; aborted = refl }
-message_says (Slots (NoKey _)) = record { opening = tt; read = refl; untried = refl; aborted = refl }
-message_says (Slots Memory) = record { opening = tt; read = refl; untried = refl; aborted = refl }
+message_says (HeaderNotRead NotLuks) = record { opening = tt; read = refl; untried = λ is. refl; aborted = refl }
+message_says (HeaderNotRead HeaderCut) = record { opening = tt; read = refl; untried = λ is. refl; aborted = refl }
+message_says (HeaderNotRead Json) = record { opening = tt; read = refl; untried = λ is. refl; aborted = refl }
+message_says (HeaderNotRead HeaderRead) = record { opening = tt; read = refl; untried = λ is. refl; aborted = refl }
+message_says (HeaderNotRead HeaderMemory) = record { opening = tt; read = refl; untried = λ is. refl; aborted = refl }
+message_says (SegmentRefused _) = record { opening = tt; read = refl; untried = λ is. refl; aborted = refl }
+message_says (Passphrase TooLong) = record { opening = tt; read = refl; untried = λ is. refl; aborted = refl }
+message_says (Passphrase PassphraseRead) = record { opening = tt; read = refl; untried = λ is. refl; aborted = refl }
+message_says (Passphrase PassphraseMemory) = record { opening = tt; read = refl; untried = λ is. refl; aborted = refl }
+message_says KeyAreaCut = record { opening = tt; read = refl; untried = λ is. refl; aborted = refl }
+message_says (Slots (NoSuchSlot _)) = record { opening = tt; read = refl; untried = λ is. refl; aborted = refl }
+message_says (Slots (Disabled _)) = record { opening = tt; read = refl; untried = λ is. refl; aborted = refl }
+message_says (Slots (NamedSkipped _ _)) = record { opening = tt; read = refl; untried = λ is. refl; aborted = refl }
+message_says (Slots (NothingTried _)) = record { opening = tt; read = refl; untried = λ is. refl; aborted = refl }
+message_says (Slots (NoKey _)) = record { opening = tt; read = refl; untried = λ is. absurd cc; aborted = refl }
+message_says (Slots Memory) = record { opening = tt; read = refl; untried = λ is. refl; aborted = refl }
+message_says (Argon2Memory _ _) = record { opening = tt; read = refl; untried = λ is. refl; aborted = refl }
 
--- no key slot was tried before a read failed, or memory ran out
-pub aborted_untried : (fault : VolumeFault) → aborts_opening fault ≡ true → is_untried fault ≡ true
-aborted_untried (Slots (NoKey _)) aborted = absurd cc
-aborted_untried _ aborted = refl
+-- a run may end with such a message before it tries a key slot, if a read failed or memory ran out
+pub aborted_untried : (fault : VolumeFault) → aborts_opening fault ≡ true
+    → ends_untried (message_for_volume fault) ≡ true
+aborted_untried (HeaderNotRead HeaderRead) aborted = refl
+aborted_untried (HeaderNotRead HeaderMemory) aborted = refl
+aborted_untried (Passphrase PassphraseRead) aborted = refl
+aborted_untried (Passphrase PassphraseMemory) aborted = refl
+aborted_untried (Slots Memory) aborted = refl
+aborted_untried (Argon2Memory _ _) aborted = refl
+aborted_untried _ aborted = absurd cc
 
 -- ---- counts of reads
 
@@ -105,21 +112,28 @@ reads_within failed false a b c first kept next = reads_more failed false a b c 
 abbrev pub volume_with : Header → Segment → OrderModel → Volume
 volume_with header segment order = record { header = header; segment = segment; order = order }
 
-module _ (location : HeaderLocation) (slots : SlotChoice) (image : List ℕ) (left : Option (List ℕ)) where
+module _ (location : HeaderLocation) (slots : AllowedSlots) (image : List ℕ) (left : Option (List ℕ)) where
   -- if there is no header, or reading it was aborted, no volume is found
   pub aborts_without_header : (ends ends' : ℕ) (fault : HeaderFault) → ReadsNoHeader image left ends ends' fault
       → FindsNoVolume (reader_for location) slots image left (HeaderNotRead fault)
   unfolding volume_by
   aborts_without_header ends ends' HeaderRead stop =
-      record { none = λ never. absurd cc; memory = λ is. absurd cc; consumed = stop.0 }
+      record {
+        none = λ never. absurd cc;
+        memory = λ is. absurd cc;
+        no_argon2 = λ slot memory is. cc;
+        consumed = stop.0;
+      }
   aborts_without_header ends ends' HeaderMemory stop = record {
     none = λ never. absurd cc;
     memory = λ is. absurd cc;
+    no_argon2 = λ slot memory is. cc;
     consumed = memory_below image left ends ends' stop;
   }
   aborts_without_header ends ends' fault stop = record {
     none = λ never. rw (reading_fault location image fault stop.0) refl;
     memory = λ is. absurd cc;
+    no_argon2 = λ slot memory is. cc;
     consumed = stop.1.0;
   }
 
@@ -130,17 +144,23 @@ module _ (location : HeaderLocation) (slots : SlotChoice) (image : List ℕ) (le
         → FindsNoVolume (reader_for location) slots image left (SegmentRefused fault)
     unfolding volume_by
     aborts_without_segment fault is =
-        record { none = λ never. rw (found, is) refl; memory = λ is. absurd cc; consumed = rest }
+        record {
+          none = λ never. rw (found, is) refl;
+          memory = λ is. absurd cc;
+          no_argon2 = λ slot memory same. cc;
+          consumed = rest;
+        }
 
     -- if there is no order of its key slots, or memory for that ran out, no volume is found
     pub aborts_without_order : (segment : Segment) → segment_of header ≡ Ok segment → (fault : OpenFault)
-        → (fault ≡ Memory) ⊎ (order_of header slots.named slots.max_iterations ≡ Err fault)
-        → (fault ≡ Memory → IsOk (order_of header slots.named slots.max_iterations))
+        → (fault ≡ Memory) ⊎ (order_within header slots.named slots.limits ≡ Err fault)
+        → (fault ≡ Memory → IsOk (order_within header slots.named slots.limits))
         → FindsNoVolume (reader_for location) slots image left (Slots fault)
     unfolding volume_by
     aborts_without_order segment is Memory why ordered = record {
       none = λ never. absurd cc;
-      memory = λ same. rw (found, is) (in_order (order_of header slots.named slots.max_iterations) (ordered refl));
+      memory = λ same. rw (found, is) (in_order (order_within header slots.named slots.limits) (ordered refl));
+      no_argon2 = λ slot memory same. cc;
       consumed = (header_read_len image, omega arith, rest);
     }
       where
@@ -150,18 +170,23 @@ module _ (location : HeaderLocation) (slots : SlotChoice) (image : List ℕ) (le
         in_order (Err _) there = absurd cc
     aborts_without_order segment is _ (inl memory) ordered = cc
     aborts_without_order segment is _ (inr none) ordered =
-        record { none = λ never. rw (found, is, none) refl; memory = λ same. absurd cc; consumed = rest }
+        record {
+          none = λ never. rw (found, is, none) refl;
+          memory = λ same. absurd cc;
+          no_argon2 = λ slot memory same. cc;
+          consumed = rest;
+        }
 
 -- the header of an image, its segment and its order make its volume
-pub volume_is : (location : HeaderLocation) (slots : SlotChoice) (image : List ℕ) (header : Header) (segment : Segment)
+pub volume_is : (location : HeaderLocation) (slots : AllowedSlots) (image : List ℕ) (header : Header) (segment : Segment)
     (order : OrderModel) → reader_for location image ≡ Ok header → segment_of header ≡ Ok segment
-    → order_of header slots.named slots.max_iterations ≡ Ok order
+    → order_within header slots.named slots.limits ≡ Ok order
     → volume_by (reader_for location) slots image ≡ Ok (record { header = header; segment = segment; order = order })
 unfolding volume_by
 volume_is location slots image header segment order found is ordered = rw (found, is, ordered) refl
 
 -- an image in which a volume was found has one
-pub there_is_volume : (location : HeaderLocation) (slots : SlotChoice) (volume : FoundVolume)
+pub there_is_volume : (location : HeaderLocation) (slots : AllowedSlots) (volume : FoundVolume)
     (left left' : Option (List ℕ)) (counts counts' : ReadCounts) (known : List ℕ)
     → FindsVolume location slots volume left left' counts counts' → left ≡ Some known
     → is_err (volume_by (reader_for location) slots known) ≡ true → ⊥

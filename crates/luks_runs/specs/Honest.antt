@@ -1,9 +1,9 @@
 -- Honestly sealed volumes, and the passphrases that open them.
 use Rattle.std.specs.Prelude.{◌≡◌, ℕ, ◌≤◌, All, Contains, List, ◌∷◌, ◌++◌, length, Some, Ok}
-use Rattle.luks_key_slots.specs.Opening.{slot_key, OrderModel, order_of}
+use Rattle.luks_key_slots.specs.Opening.{slot_key, OrderModel, order_within}
 use Rattle.luks_key_slots.specs.declared.entry.Entry.{Entry}
 use Rattle.luks_seal.specs.Sealed.{Sealed}
-use Rattle.luks_request.specs.declared.command.SlotChoice.{SlotChoice}
+use Rattle.luks_runs.specs.declared.allowed.AllowedSlots.{AllowedSlots}
 use Rattle.luks_runs.specs.KeyFile.{max_key_file_len}
 
 -- if the key slot opens under this passphrase, it gives this key
@@ -21,7 +21,7 @@ pub record ComesFirst (number : ℕ) (entries : List Entry) (image passphrase ke
 
 -- the image is an honestly sealed volume of this plaintext; this passphrase is no longer than a key file may be, and is
 -- that of a key slot to be tried, before which no key slot gives another key under it
-pub record OpensHonest (slots : SlotChoice) (image passphrase plain : List ℕ) : Type 0 where
+pub record OpensHonest (slots : AllowedSlots) (image passphrase plain : List ℕ) : Type 0 where
   pub passphrases : List (ℕ × List ℕ)
   pub key : List ℕ
   pub sealed : Sealed image passphrases key plain
@@ -29,5 +29,5 @@ pub record OpensHonest (slots : SlotChoice) (image passphrase plain : List ℕ) 
   pub is_passphrase : Contains passphrases (number, passphrase)
   pub short : length passphrase ≤ max_key_file_len
   pub order : OrderModel
-  pub is_order : order_of sealed.header slots.named slots.max_iterations ≡ Ok order
+  pub is_order : order_within sealed.header slots.named slots.limits ≡ Ok order
   pub first : ComesFirst number order.entries image passphrase key

@@ -1,3 +1,4 @@
+pub mod Allowed
 pub mod HeaderOutcome
 pub mod Honest
 pub mod KeyFile

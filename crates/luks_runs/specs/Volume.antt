@@ -1,7 +1,7 @@
 -- The outcomes of the commands that open volumes: first the volume that an image's header describes, then how opening
 -- it ends, then the outcome of a run. Then what finding a volume and trying its key slots leave in the device.
 use Rattle.std.specs.Prelude.{ℕ, ◌+◌, List, length, max, nat_lt, if◌then◌else◌, Option, Result, Ok, Err, ◌≡◌, take}
-use Rattle.std.specs.Prelude.{◌<◌, ◌≤◌, ◌⊎◌, Some, IsOk, Bool, false, true, MatchBool, drop, []}
+use Rattle.std.specs.Prelude.{◌<◌, ◌≤◌, ◌⊎◌, Some, IsOk, Bool, false, true, MatchBool, drop, [], sum_by}
 use Rattle.std.specs.Result.{result_map_both}
 use Rattle.luks_header.specs.Header.{header_read_len, header_of}
 use Rattle.luks_header.specs.HeaderSegment.{segment_of}
@@ -11,7 +11,9 @@ use Rattle.luks_header_area.specs.declared.fault.HeaderFault.{HeaderFault}
 use Rattle.luks_header_area.specs.declared.fault.HeaderFault.TheVariants.{Read as HeaderRead, Memory as HeaderMemory}
 use Rattle.luks_verdict.specs.declared.refusal.SegmentFault.{SegmentFault}
 use Rattle.luks_verdict.specs.declared.segment.Segment.{Segment}
-use Rattle.luks_key_slots.specs.Opening.{OrderModel, key_material_end, order_of, opening_of, work_of}
+use Rattle.luks_key_slots.specs.Opening.{OrderModel, StopsAfter, blocks_filled, blocks_of, evaluations_of}
+use Rattle.luks_key_slots.specs.Opening.{key_material_end}
+use Rattle.luks_key_slots.specs.Opening.{opening_of, order_within, work_of}
 use Rattle.luks_key_slots.specs.declared.fault.OpenFault.TheVariants.{Memory, NoKey as NoOpening}
 use Rattle.luks_key_slots.specs.declared.fault.PassphraseFault.{PassphraseFault}
 use Rattle.luks_key_slots.specs.declared.fault.PassphraseFault.TheVariants.{TooLong}
@@ -19,7 +21,7 @@ use Rattle.luks_key_slots.specs.declared.fault.VolumeFault.{VolumeFault}
 use Rattle.luks_key_slots.specs.declared.fault.VolumeFault.TheVariants as V
 use Rattle.luks_key_slots.specs.Fault.{aborts_opening, has_fault, is_untried}
 use Rattle.luks_report.specs.Faults.{message_at_end, message_for_volume}
-use Rattle.luks_request.specs.declared.command.SlotChoice.{SlotChoice}
+use Rattle.luks_runs.specs.declared.allowed.AllowedSlots.{AllowedSlots}
 use Rattle.luks_key_slots.specs.declared.opening.Opened.{Opened}
 use Rattle.luks_payload.specs.Plain.{ending_of, payload_end_of, plain_of}
 use Rattle.luks_report.specs.Texts.{opened_line}
@@ -76,24 +78,24 @@ pub record Volume : Type 0 where
   pub order : OrderModel
 
 -- the volume with this segment
-abbrev pub volume_in_segment : SlotChoice → Header → Result Segment SegmentFault → Result Volume VolumeFault
+abbrev pub volume_in_segment : AllowedSlots → Header → Result Segment SegmentFault → Result Volume VolumeFault
 volume_in_segment slots header (Ok segment) = result_map_both
     (λ order. record { header = header; segment = segment; order = order })
-    V.Slots (order_of header slots.named slots.max_iterations)
+    V.Slots (order_within header slots.named slots.limits)
 volume_in_segment slots header (Err fault) = Err (V.Segment fault)
 
 -- the volume with this header, by the key slots that may be tried
-abbrev pub volume_in_header : SlotChoice → Result Header HeaderFault → Result Volume VolumeFault
+abbrev pub volume_in_header : AllowedSlots → Result Header HeaderFault → Result Volume VolumeFault
 volume_in_header slots (Ok header) = volume_in_segment slots header (segment_of header)
 volume_in_header slots (Err fault) = Err (V.Header fault)
 
 -- the volume whose header is read in this way, or the fault if there is none: of its header first, then of its segment,
 -- then of the order of its key slots
-unfoldable pub volume_by : HeaderReader → SlotChoice → List ℕ → Result Volume VolumeFault
+unfoldable pub volume_by : HeaderReader → AllowedSlots → List ℕ → Result Volume VolumeFault
 volume_by read slots image = volume_in_header slots (read image)
 
 -- the volume of an image
-abbrev pub volume_of : SlotChoice → List ℕ → Result Volume VolumeFault
+abbrev pub volume_of : AllowedSlots → List ℕ → Result Volume VolumeFault
 volume_of = volume_by header_of
 
 -- the number of bytes of the image that are consumed to open the volume: up to the end of those read for the header or
@@ -175,7 +177,7 @@ opening_after image secret (Err fault) =
     record { result = Err fault; consumed = header_read_len image; secret_consumed = 0 }
 
 -- how opening the volume of an image ends, under a passphrase, if its header is read in this way
-unfoldable pub volume_opening_by : HeaderReader → SlotChoice → List ℕ → List ℕ → VolumeOpening
+unfoldable pub volume_opening_by : HeaderReader → AllowedSlots → List ℕ → List ℕ → VolumeOpening
 volume_opening_by read slots image secret = opening_after image secret (volume_by read slots image)
 
 -- the outcome of what is done with an opened volume, or the message for the fault
@@ -189,12 +191,12 @@ abbrev pub outcome_after : OnOpened → VolumeOpening → Outcome
 outcome_after on_opened opening = outcome_by on_opened opening.consumed opening.secret_consumed opening.result
 
 -- the outcome of a command that opens a volume whose header is read in this way
-unfoldable pub volume_outcome_by : HeaderReader → OnOpened → SlotChoice → List ℕ → List ℕ → Outcome
+unfoldable pub volume_outcome_by : HeaderReader → OnOpened → AllowedSlots → List ℕ → List ℕ → Outcome
 volume_outcome_by read on_opened slots image secret =
     outcome_after on_opened (volume_opening_by read slots image secret)
 
 -- the outcome of a command that opens a volume
-abbrev pub volume_outcome : OnOpened → SlotChoice → List ℕ → List ℕ → Outcome
+abbrev pub volume_outcome : OnOpened → AllowedSlots → List ℕ → List ℕ → Outcome
 volume_outcome = volume_outcome_by header_of
 
 -- ---- finding the volume that a header describes
@@ -210,20 +212,21 @@ ConsumedUnless aborted known left count =
 
 -- no volume whose header is read in this way was found, for this reason: a read failed, memory ran out, or the image
 -- has none. No passphrase and no key area is read for that. Memory for key slots runs out only if some can be tried
-pub record FindsNoVolume (read : HeaderReader) (slots : SlotChoice) (image : List ℕ) (left : Option (List ℕ))
+pub record FindsNoVolume (read : HeaderReader) (slots : AllowedSlots) (image : List ℕ) (left : Option (List ℕ))
     (fault : VolumeFault) : Type 0 where
   pub none : aborts_opening fault ≡ false → volume_by read slots image ≡ Err fault
   pub memory : fault ≡ V.Slots Memory → IsOk (volume_by read slots image)
+  pub no_argon2 : (slot memory : ℕ) → fault ≡ V.Argon2Memory slot memory → ⊥
   pub consumed : ConsumedUnless (aborts_opening fault) image left (header_read_len image)
 
 -- a volume has the segment of its header, and the order of its header's key slots
-pub record MatchesHeader (slots : SlotChoice) (volume : FoundVolume) : Type 0 where
+pub record MatchesHeader (slots : AllowedSlots) (volume : FoundVolume) : Type 0 where
   pub segment : segment_of volume.header ≡ Ok volume.segment
-  pub order : order_of volume.header slots.named slots.max_iterations ≡ Ok volume.order
+  pub order : order_within volume.header slots.named slots.limits ≡ Ok volume.order
 
 -- a volume was found in this image: it has the header, its area has the bytes that are read for it, and those after
 -- them remain
-pub record FoundIn (location : HeaderLocation) (choice : SlotChoice) (image : List ℕ) (volume : FoundVolume)
+pub record FoundIn (location : HeaderLocation) (choice : AllowedSlots) (image : List ℕ) (volume : FoundVolume)
     (left : Option (List ℕ)) : Type 0 where
   pub slots : MatchesHeader choice volume
   pub header : reader_for location image ≡ Ok volume.header
@@ -232,7 +235,7 @@ pub record FoundIn (location : HeaderLocation) (choice : SlotChoice) (image : Li
   pub ended : volume.area.ended ≡ true → drop (header_read_len image) image ≡ []
 
 -- a volume was found: its area has the bytes that were consumed and no more, and its header is the one read from them
-pub record FindsVolume (location : HeaderLocation) (choice : SlotChoice) (volume : FoundVolume)
+pub record FindsVolume (location : HeaderLocation) (choice : AllowedSlots) (volume : FoundVolume)
     (before after : Option (List ℕ)) (counts counts' : ReadCounts) : Type 0 where
   pub slots : MatchesHeader choice volume
   pub of_area : reader_for location volume.area.bytes ≡ Ok volume.header
@@ -260,21 +263,23 @@ opened_result (Ok volume) = Ok (volume.segment, opened_of volume)
 opened_result (Err fault) = Err fault
 
 -- opening a volume ended as specified, with as many bytes of its image consumed, or was aborted. Memory for key slots
--- runs out only if some can be tried
+-- runs out only if some can be tried, and so does memory for Argon2
 pub record OpeningMatches (opening : VolumeOpening) (image : List ℕ) (result : Result UnlockedVolume VolumeFault)
     (left : Option (List ℕ)) : Type 0 where
   pub answer : has_fault aborts_opening result ≡ false → opened_result result ≡ opening.result
   pub memory : result ≡ Err (V.Slots Memory) → CanBeTried opening.result
+  pub argon2 : (slot memory : ℕ) → result ≡ Err (V.Argon2Memory slot memory) → CanBeTried opening.result
   pub consumed : ConsumedUnless (has_fault aborts_opening result) image left opening.consumed
 
 -- the key slots of a volume were tried under a passphrase, with these bytes of its image loaded: the result is the
--- volume that they open, or their fault. Otherwise not all key material was loaded: the image ended before, a read
+-- volume that they open, or their fault, or memory that Argon2 needs for one of them was refused. Otherwise not all key material was loaded: the image ended before, a read
 -- failed, or memory ran out
 abbrev pub TriesSlots : Volume → List ℕ → List ℕ → Result UnlockedVolume VolumeFault → Type 0
 TriesSlots volume area pass (Ok opened) = (key_material_end volume.order.entries ≤ length area)
     × (opened.segment ≡ volume.segment) × (opening_of volume.order area pass ≡ Ok (opened_of opened))
 TriesSlots volume area pass (Err (V.Slots fault)) = (key_material_end volume.order.entries ≤ length area)
     × (opening_of volume.order area pass ≡ Err fault)
+TriesSlots volume area pass (Err (V.Argon2Memory slot memory)) = key_material_end volume.order.entries ≤ length area
 TriesSlots volume area pass (Err V.KeyAreaCut) = length area < key_material_end volume.order.entries
 TriesSlots volume area pass (Err (V.Header fault)) = (length area < key_material_end volume.order.entries)
     × (fault ≡ HeaderRead ⊎ fault ≡ HeaderMemory)
@@ -296,6 +301,35 @@ abbrev pub CountsTrials : OrderModel → List ℕ → List ℕ → Result Unlock
 CountsTrials order area pass result work work' =
     ((key_material_end order.entries ≤ length area) × (work' ≡ capped (work + work_of order area pass)))
     ⊎ ((length area < key_material_end order.entries) × (has_fault is_untried result ≡ true) × (work' ≡ work))
+
+-- the count of blocks that Argon2 filled was raised in the same way
+abbrev pub CountsBlocks : OrderModel → List ℕ → List ℕ → ℕ → ℕ → Type 0
+CountsBlocks order area pass blocks blocks' = ((key_material_end order.entries ≤ length area)
+    × (capped blocks' ≡ capped (blocks + blocks_filled order area pass)))
+    ⊎ ((length area < key_material_end order.entries) × (capped blocks' ≡ capped blocks))
+
+-- this holds, unless memory for Argon2 was refused
+abbrev pub UnlessRefused : {T : Type 0} → Result T VolumeFault → Type 0 → Type 0
+UnlessRefused (Err (V.Argon2Memory slot memory)) P = Unit {0}
+UnlessRefused _ P = P
+
+-- memory for Argon2 was refused only if it may be
+abbrev pub RefusedOnlyIf : {T : Type 0} → Type 0 → Result T VolumeFault → Type 0
+RefusedOnlyIf may_fail (Err (V.Argon2Memory slot memory)) = may_fail
+RefusedOnlyIf may_fail _ = Unit {0}
+
+-- memory for Argon2 was refused for the key of this slot, whose turn came after the first `tried`, none of which opens.
+-- These were counted
+pub record CountsRefused (order : OrderModel) (area pass : List ℕ) (slot work work' blocks blocks' : ℕ) : Type 0 where
+  pub tried : ℕ
+  pub stops : StopsAfter order.entries area pass tried slot
+  pub counted : work' ≡ capped (work + sum_by evaluations_of (take tried order.entries))
+  pub filled : capped blocks' ≡ capped (blocks + sum_by blocks_of (take tried order.entries))
+
+-- the same, if memory for Argon2 was refused
+abbrev pub IfRefused : {T : Type 0} → Result T VolumeFault → (ℕ → Type 0) → Type 0
+IfRefused (Err (V.Argon2Memory slot memory)) P = P slot
+IfRefused _ P = Unit {0}
 
 -- all bytes that opening the volume consumes are loaded
 abbrev pub IsLoaded : VolumeOpening → List ℕ → List ℕ → Type 0

@@ -7,6 +7,7 @@ ghost use Rattle.luks_key_slots.specs.Fault.{has_fault, is_read_failure};
 ghost use Rattle.luks_runs.specs.Location.{reader_for};
 ghost use Rattle.luks_runs.specs.Volume.{FindsNoVolume, FindsVolume, NoPassphraseFault};
 
+use crate::allowed::AllowedSlots;
 use crate::location::{HeaderLocation, read_header_at};
 use luks_header::area::HeaderArea;
 use luks_header::header::Header;
@@ -15,8 +16,7 @@ use luks_header::segment::Segment;
 use luks_io::source::Source;
 use luks_key_slots::fault::VolumeFault;
 use luks_key_slots::order::Order;
-use luks_key_slots::ordering::order;
-use luks_request::command::SlotChoice;
+use luks_key_slots::ordering::order_within;
 use std::alloc::Global;
 
 /// A volume whose header was read, with its segment and the key slots to be tried.
@@ -38,7 +38,7 @@ pub struct FoundVolume {
 pub fn find_volume<I: Source>(
     alloc: Global,
     location: HeaderLocation,
-    slots: SlotChoice,
+    slots: AllowedSlots,
     image: &mut I,
 ) -> Result<FoundVolume, VolumeFault>
     ensures found { IfOk result (λ volume. FindsVolume location slots volume
@@ -51,7 +51,7 @@ pub fn find_volume<I: Source>(
 {
     let (header, area) = read_header_at(alloc, location, image)?;
     let segment = segment(&header)?;
-    let order = order(alloc, &header, slots.named, slots.max_iterations)?;
+    let order = order_within(alloc, &header, slots.named, slots.limits)?;
     Ok(FoundVolume {
         header,
         area,

@@ -2,6 +2,7 @@
 //! volume by a passphrase, and forwarding the payload.
 #![tactic(auto)]
 
+pub mod allowed;
 pub mod found;
 pub mod headers;
 pub mod key_file;

@@ -6,6 +6,7 @@ ghost use Rattle.luks_key_slots.specs.Fault.{has_fault, is_read_failure};
 ghost use Rattle.luks_report.specs.Faults.{message_for_volume};
 ghost use Rattle.luks_io.specs.Counts.{Reads, Writes};
 ghost use Rattle.luks_io.specs.Devices.{Appended, ConsumedExactly, IfKnown};
+ghost use Rattle.luks_runs.specs.Allowed.{pbkdf2_alone};
 ghost use Rattle.luks_runs.specs.Volume.{OpeningMessage};
 ghost use Rattle.luks_runs.specs.Volume.{opened_of};
 ghost use Rattle.luks_runs.specs.Volume.{slot_outcome, volume_by, volume_outcome_by};
@@ -28,10 +29,12 @@ use luks_io::memory::MemSource;
 use luks_io::sink::{Sink, put_all};
 use luks_io::source::Source;
 use luks_kdf::Work;
+use luks_key_slots::derive::Pbkdf2Alone;
 use luks_key_slots::fault::VolumeFault;
 use luks_report::message::Message;
 use luks_report::volume_opened::opened_text;
 use luks_request::command::{SlotChoice, VolumeArgs};
+use luks_runs::allowed::pbkdf2_alone;
 use luks_runs::found::{FoundVolume, find_volume};
 use luks_runs::key_file::read_key_file;
 use luks_runs::location::HeaderLocation;
@@ -70,7 +73,7 @@ fn unlock<I: Source, K: Source>(
         IfKnown (K.to_come secret.old) (λ passphrase.
         Unlocks (record {
           location = location;
-          slots = slots;
+          slots = pbkdf2_alone slots;
           image = known;
           image' = I.to_come image.new;
           secret = passphrase;
@@ -78,15 +81,15 @@ fn unlock<I: Source, K: Source>(
         }) unlocked.volume.segment (opened_of unlocked.volume) unlocked.area.bytes))) }
     ensures err { IfErr result (λ fault. IfKnown (I.to_come image.old) (λ known.
         IfKnown (K.to_come secret.old) (λ passphrase.
-        EndsLocked location slots known passphrase (message_for_volume fault)
+        EndsLocked location (pbkdf2_alone slots) known passphrase (message_for_volume fault)
         (I.to_come image.new) (K.to_come secret.new)))) }
     ensures unneeded { IfKnown (I.to_come image.old) (λ known.
-        is_err (volume_by (reader_for location) slots known) ≡ true
+        is_err (volume_by (reader_for location) (pbkdf2_alone slots) known) ≡ true
         → secret.new ≡ secret.old) }
     ensures counts { CountsReads ReadsOnce (has_fault is_read_failure result)
         (record { before = I.counts image.old; after = I.counts image.new })
         (record { before = K.counts secret.old; after = K.counts secret.new }) }
-    ensures work { CountsUnlocking location slots result
+    ensures work { CountsUnlocking location (pbkdf2_alone slots) result
         (record {
           image = record { before = I.to_come image.old; after = I.to_come image.new };
           passphrase = K.to_come secret.old;
@@ -96,9 +99,9 @@ fn unlock<I: Source, K: Source>(
     ensures loaded { IfOk result (λ unlocked. LoadedFrom unlocked.area (I.to_come image.old)
         (I.to_come image.new) (I.counts image.old) (I.counts image.new)) }
 {
-    let mut volume = find_volume(alloc, location, slots, image)?;
+    let mut volume = find_volume(alloc, location, pbkdf2_alone(slots), image)?;
     let passphrase = read_key_file(alloc, secret)?;
-    let opened = try_slots(&mut volume, image, &passphrase, work)?;
+    let opened = try_slots(&mut volume, image, &mut Pbkdf2Alone, &passphrase, work)?;
     Ok(LoadedVolume {
         area: area_of(volume),
         volume: opened,
@@ -130,17 +133,17 @@ pub(super) fn test_passphrase<I: Source, K: Source, O: Sink>(
     ensures run { IfKnown (I.to_come image.old)
         (λ known. IfKnown (K.to_come secret.old) (λ passphrase.
         RunMatches AnyPromptness (volume_outcome_by (reader_for location) (slot_outcome passphrase)
-        slots known passphrase) (result_message result)
+        (pbkdf2_alone slots) known passphrase) (result_message result)
         (ConsumedExactly known (I.to_come image.new))
         (ConsumedExactly passphrase (K.to_come secret.new))
         (Appended (O.written out.old) (O.written out.new)))) }
     ensures unneeded { IfKnown (I.to_come image.old) (λ known.
-        is_err (volume_by (reader_for location) slots known) ≡ true
+        is_err (volume_by (reader_for location) (pbkdf2_alone slots) known) ≡ true
         → secret.new ≡ secret.old) }
     ensures only { OpeningMessage (result_message result)
         ⊎ (result_message result ≡ Message.Done ⊎ result_message result ≡ Message.WriteFailed) }
     ensures reads_first { result_message result ≡ Message.ReadFailed → out.new ≡ out.old }
-    ensures work { CountsOpening location slots (result_message result)
+    ensures work { CountsOpening location (pbkdf2_alone slots) (result_message result)
         (record {
           image = record { before = I.to_come image.old; after = I.to_come image.new };
           passphrase = K.to_come secret.old;
@@ -202,9 +205,9 @@ pub(super) fn cat<H: Source, I: Source, K: Source, O: Sink>(
           output = record { before = O.written out.old; after = O.written out.new };
         }) }
     ensures unneeded { IfKnown (H.to_come header.old) (λ known.
-        is_err (volume_by (reader_for location) args.now.slots known) ≡ true
+        is_err (volume_by (reader_for location) (pbkdf2_alone args.now.slots) known) ≡ true
         → secret.new ≡ secret.old) }
-    ensures work { CountsOpening location args.now.slots (result_message result)
+    ensures work { CountsOpening location (pbkdf2_alone args.now.slots) (result_message result)
         (record {
           image = record { before = H.to_come header.old; after = H.to_come header.new };
           passphrase = K.to_come secret.old;
@@ -213,7 +216,7 @@ pub(super) fn cat<H: Source, I: Source, K: Source, O: Sink>(
         }) }
     ensures before_key { EndsWithoutKey (result_message result) → image.new ≡ image.old }
     ensures calls { CountsCalls location
-        (ReadsPayload (CatAllows location args.now.slots (result_message result)
+        (ReadsPayload (CatAllows location (pbkdf2_alone args.now.slots) (result_message result)
         (H.to_come header.old) (K.to_come secret.old)))
         (result_message result)
         (record {

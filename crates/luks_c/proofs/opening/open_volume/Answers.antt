@@ -7,6 +7,7 @@ use Rattle.luks_runs.proofs.PrefixLemmas.{opening_decided}
 use Rattle.luks_runs.specs.Volume.{OpeningMessage, VolumeOpening}
 use Rattle.luks_runs.proofs.RunLemmas.{never_failed}
 use Rattle.luks_runs.proofs.VolumeLemmas.{message_says}
+use Rattle.luks_access.specs.Opens.{allowed_by}
 use Rattle.luks_c.specs.Stored.{code_for}
 use Rattle.luks_c.proofs.opening.open_volume.Goals as goal
 
@@ -29,7 +30,7 @@ returns-in-Ok c =
         opened = c.in-Ok.opened;
         filled = rw (c.segment.ensures, c.slot.ensures, c.key.ensures) at c.store.ensures;
         opens = λ image begins.
-            ap (λ (o : VolumeOpening). o.result) (opening_decided c.in-Some.options.location c.in-Some.options.slots
+            ap (λ (o : VolumeOpening). o.result) (opening_decided c.in-Some.options.location (allowed_by c.in-Some.options)
             image c.args.header.now c.args.passphrase.now begins) ∙ answers.opens.opens;
         says = c.answer_message.ensures.message;
       };
@@ -43,7 +44,7 @@ returns-in-Ok c =
 pub returns-in-Err : goal.returns-in-Err
 returns-in-Err c =
     let answers = c.in-Err.ensures.answers c.args.header.now (ap (λ (g : MemSourceModel). Some g.left) c.new.ensures) in
-    let code = c.answer_message-in-Err.ensures.code ∙ ap code_for c.from.ensures in
+    let code = c.answer_fault.ensures.code in
     let codes = refusal_code _ (message_says c.in-Err.fault).opening in
     record {
       opens = λ none. absurd (codes.0 (sym code ∙ none));
@@ -52,10 +53,10 @@ returns-in-Err c =
         are = c.in-Some.ensures.made;
         fault = c.in-Err.fault;
         is_code = code;
-        says = rw c.from.ensures at c.answer_message-in-Err.ensures.message;
+        says = c.answer_fault.ensures.message;
         read = never_failed _ c.in-Err.ensures.reads.1.failures;
         refuses = λ never image begins.
-            ap (λ (o : VolumeOpening). o.result) (opening_decided c.in-Some.options.location c.in-Some.options.slots
+            ap (λ (o : VolumeOpening). o.result) (opening_decided c.in-Some.options.location (allowed_by c.in-Some.options)
             image c.args.header.now c.args.passphrase.now begins) ∙ answers.refuses.refuses never;
       };
       cleared = λ some. c.clear-in-Err.ensures;

@@ -5,6 +5,7 @@ use Rattle.luks_commands.specs.Headline.{Change, RunsAsSpecified, WritesPlain, p
 use Rattle.luks_io.specs.Devices.{Appended}
 use Rattle.luks_report.specs.declared.message.Message.{Message}
 use Rattle.luks_request.specs.Request.{Request, luks_cat, request_of}
+use Rattle.luks_runs.specs.Allowed.{pbkdf2_alone}
 use Rattle.luks_runs.specs.declared.location.HeaderLocation.TheVariants.{Attached}
 use Rattle.luks_runs.proofs.HonestVolumes.{unsealed}
 
@@ -19,7 +20,7 @@ writes_plain : (request : Request) (message : Message) (input secret output : Ch
     → WritesPlain request message input.before secret.before output
 writes_plain (luks_cat o) message input secret output left runs = λ known is pass has plain counted honest whole.
     let run = rw whole at (runs known is known refl pass has counted) in
-    let outcome = unsealed o.slots known pass plain honest in (
+    let outcome = unsealed (pbkdf2_alone o.slots) known pass plain honest in (
       run.as_specified ∙ outcome.1,
       subst (λ (bytes : List ℕ). Appended output.before output.after bytes) outcome.0 run.output,
     )

@@ -28,6 +28,7 @@ pub const OPTIONS: Options = Options {
         named: None,
         max_iterations: None,
     },
+    argon2: None,
 };
 
 /// This many bytes that count up, to be read or overwritten.

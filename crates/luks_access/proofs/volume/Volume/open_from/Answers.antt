@@ -6,7 +6,17 @@ use Rattle.luks_access.proofs.OpeningLemmas.{ends_opening}
 use Rattle.luks_runs.proofs.OpeningLemmas.{opens_as, opens_unfound, opens_unread}
 use Rattle.luks_runs.proofs.VolumeLemmas.{reads_on}
 use Rattle.luks_runs.specs.KeyFile.{max_key_file_len}
+use Rattle.luks_argon2_slots.proofs.DerivingLemmas.{All-CanDerive}
+use Rattle.luks_access.specs.Opens.{allowed_by}
 use Rattle.luks_access.proofs.volume.Volume.open_from.Goals as goal
+
+-- the key of each key slot can be derived
+pub try_slots-requires-clause-derives : goal.try_slots-requires-clause-derives
+try_slots-requires-clause-derives g c =
+    let slots = c.in_ok-found.ensures.found.slots in
+    let allowed = allowed_by c.args.options.now in
+    All-CanDerive c.in_ok-found.found.header allowed.named allowed.limits c.in_ok-found.found.order slots.order
+    c.in_ok-found.found.segment slots.segment c.args.pass.now (omega arith)
 
 -- no volume was found
 pub returns-in_err-found-clause-answers : goal.returns-in_err-found-clause-answers

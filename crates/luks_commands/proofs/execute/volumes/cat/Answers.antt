@@ -6,6 +6,7 @@ use Rattle.luks_request.specs.Request.{volume_request}
 use Rattle.luks_runs.proofs.RunLemmas.{never_failed}
 use Rattle.luks_runs.proofs.VolumeLemmas.{message_says}
 use Rattle.luks_runs.specs.Run.{is_run_read_failure, result_message}
+use Rattle.luks_runs.specs.Allowed.{pbkdf2_alone}
 use Rattle.luks_runs.specs.Volume.{payload_outcome}
 use Rattle.luks_runs.specs.declared.location.HeaderLocation.TheVariants.{Attached, Detached}
 use Rattle.luks_commands.proofs.OpenedRuns.{allows_payload, calls_without_payload}
@@ -32,7 +33,7 @@ pub returns-in_err-unlocked-clause-calls : goal.returns-in_err-unlocked-clause-c
 returns-in_err-unlocked-clause-calls g c =
     let stop = c.in_err-unlocked.ensures in
     rw (given_error _ _ c.from_residual.ensures.1)
-    (calls_without_payload c.args.location _ _ (none_allowed c.args.location c.args.args.now.slots _ _ _)
+    (calls_without_payload c.args.location _ _ (none_allowed c.args.location (pbkdf2_alone c.args.args.now.slots) _ _ _)
     (rw (message_says c.in_err-unlocked.field-0.0).read at stop.counts)
     (no_write_unopened _ (message_says c.in_err-unlocked.field-0.0).opening))
 
@@ -63,7 +64,7 @@ returns-in-Detached-clause-calls g c =
       reads = unlocked.counts;
       payload_reads = (
         _,
-        allows_payload Detached c.args.args.now.slots (result_message c.write_plain.result) _ _ _ _ _ _ _
+        allows_payload Detached (pbkdf2_alone c.args.args.now.slots) (result_message c.write_plain.result) _ _ _ _ _ _ _
             forwarded.only (rw c.in-Detached.is at unlocked.ok),
         forwarded.reads,
       );
@@ -95,7 +96,7 @@ returns-clause-calls g c =
         in_input = true;
         input_reads = (
           _,
-          allows_payload Attached c.args.args.now.slots (result_message c.write_plain-in-Attached.result)
+          allows_payload Attached (pbkdf2_alone c.args.args.now.slots) (result_message c.write_plain-in-Attached.result)
               _ _ segment _ _ _ _
               c.write_plain-in-Attached.ensures.only (rw c.in-Attached.is at unlocked.ok),
           (reads.0, payload_after _ _ segment _ _ _ (rw unended at unlocked.loaded.reads) reads.1),
@@ -135,7 +136,7 @@ returns-then-has_ended-clause-calls g c =
     let unread = never_failed (is_run_read_failure (result_message c.write_plain-then-has_ended.result))
     c.write_plain-then-has_ended.ensures.reads.1.failures in
     rw c.in-Attached.is (calls_without_payload Attached _ (result_message c.write_plain-then-has_ended.result)
-    (none_allowed Attached c.args.args.now.slots _ _ _) (rw unread counts) c.write_plain-then-has_ended.ensures.writes)
+    (none_allowed Attached (pbkdf2_alone c.args.args.now.slots) _ _ _) (rw unread counts) c.write_plain-then-has_ended.ensures.writes)
 
 pub returns-then-has_ended-clause-work : goal.returns-then-has_ended-clause-work
 returns-then-has_ended-clause-work g c known is pass has = inl (c.in_ok-unlocked.ensures.work known is pass has)

@@ -1,27 +1,37 @@
 use Rattle.std.proofs.Common.{◌∙◌, ◌≤◌, Err, Ok, Some, subst, ap, arith, false, inl, inr, length, refl, true}
 use Rattle.luks_key_slots.specs.declared.fault.VolumeFault.TheVariants.{Passphrase}
 use Rattle.luks_io.proofs.ErrorLemmas.{given_error}
+use Rattle.luks_runs.proofs.OpeningLemmas.{counts_given}
 use Rattle.luks_runs.proofs.VolumeLemmas.{message_says, reads_on, there_is_volume}
 use Rattle.luks_runs.specs.KeyFile.{max_key_file_len}
 use Rattle.luks_runs.specs.Volume.{TriesSlots, described}
+use Rattle.luks_runs.specs.Allowed.{pbkdf2_alone}
 use Rattle.luks_commands.proofs.OpenedRuns.{reads_of_image}
 use Rattle.luks_commands.proofs.VolumeRuns.{counts_opened, counts_unopened, early_unfound, locked_tried}
 use Rattle.luks_commands.proofs.VolumeRuns.{locked_unfound, locked_unread, unlocked_tried}
+use Rattle.luks_key_slots.proofs.CallerLemmas.{All-IsPbkdf2}
 use Rattle.luks_commands.proofs.execute.volumes.unlock.Goals as goal
+
+-- no key slot needs Argon2
+pub try_slots-requires-clause-derives : goal.try_slots-requires-clause-derives
+try_slots-requires-clause-derives g c =
+    let slots = c.in_ok-volume.ensures.found.slots in
+    All-IsPbkdf2 c.in_ok-volume.volume.header (pbkdf2_alone c.args.slots).named (pbkdf2_alone c.args.slots).limits
+    c.in_ok-volume.volume.order slots.order c.in_ok-volume.volume.segment slots.segment refl
 
 -- ---- no volume was found
 
 pub returns-in_err-volume-clause-err : goal.returns-in_err-volume-clause-err
 returns-in_err-volume-clause-err g c =
     rw (given_error _ _ c.from_residual.ensures.1) (λ known is pass has.
-    locked_unfound c.args.location c.args.slots known pass _ _ _ (c.in_err-volume.ensures.err known is) has)
+    locked_unfound c.args.location (pbkdf2_alone c.args.slots) known pass _ _ _ (c.in_err-volume.ensures.err known is) has)
 
 pub returns-in_err-volume-clause-work : goal.returns-in_err-volume-clause-work
 returns-in_err-volume-clause-work g c =
     rw (given_error _ _ c.from_residual.ensures.1) (λ known is pass has. inr (
       record {
         unread = inl refl;
-        early = early_unfound c.args.location c.args.slots known pass _ (Some pass) _
+        early = early_unfound c.args.location (pbkdf2_alone c.args.slots) known pass _ (Some pass) _
             (c.in_err-volume.ensures.err known is);
       },
       refl,
@@ -36,7 +46,7 @@ returns-in_err-volume-clause-counts g c =
 pub returns-in_err-passphrase-clause-err : goal.returns-in_err-passphrase-clause-err
 returns-in_err-passphrase-clause-err g c =
     rw (given_error _ _ c.from_residual-in_err-passphrase.ensures.1) (λ known is pass has.
-    locked_unread c.args.location c.args.slots known pass _ _ _ _ (c.in_ok-volume.ensures.found.found known is) refl _
+    locked_unread c.args.location (pbkdf2_alone c.args.slots) known pass _ _ _ _ (c.in_ok-volume.ensures.found.found known is) refl _
     (c.in_err-passphrase.ensures.err pass has))
 
 pub returns-in_err-passphrase-clause-work : goal.returns-in_err-passphrase-clause-work
@@ -44,7 +54,7 @@ returns-in_err-passphrase-clause-work g c =
     rw (given_error _ _ c.from_residual-in_err-passphrase.ensures.1) (λ known is pass has. inr (
       record {
         unread = inl c.in_err-passphrase.ensures.reads.ends;
-        early = inr (message_says (Passphrase c.in_err-passphrase.field-0.0)).untried;
+        early = inr ((message_says (Passphrase c.in_err-passphrase.field-0.0)).untried refl);
       },
       refl,
     ))
@@ -71,7 +81,7 @@ returns-in_err-opened-clause-err g c =
     let short : length pass ≤ max_key_file_len =
     omega (arith, ap length whole.0, c.in_ok-passphrase.passphrase.ok.0, few) in
     let found = c.in_ok-volume.ensures.found.found known is in
-    locked_tried c.args.location c.args.slots known pass _ _ _ _ found _ (Err c.in_err-opened.field-0.0)
+    locked_tried c.args.location (pbkdf2_alone c.args.slots) known pass _ _ _ _ found _ (Err c.in_err-opened.field-0.0)
     (subst (λ p. TriesSlots (described c.in_ok-volume.volume) c.try_slots.new.volume.area.bytes p
     (Err c.in_err-opened.field-0.0)) (c.deref.ensures.value ∙ whole.0) c.in_err-opened.ensures.tries)
     c.in_err-opened.ensures.run short whole.1 _ refl)
@@ -95,11 +105,12 @@ returns-in_err-opened-clause-work g c =
     rw (given_error _ _ c.from_residual-in_err-opened.ensures.1) (λ known is pass has.
     let whole = c.in_ok-passphrase.ensures.ok pass has in
     let found = c.in_ok-volume.ensures.found.found known is in
-    counts_unopened c.args.location c.args.slots known pass _ (Some pass) _ _ found _ (Err c.in_err-opened.field-0.0)
+    counts_unopened c.args.location (pbkdf2_alone c.args.slots) known pass _ (Some pass) _ _ found _ (Err c.in_err-opened.field-0.0)
     (subst (λ p. TriesSlots (described c.in_ok-volume.volume) c.try_slots.new.volume.area.bytes p
     (Err c.in_err-opened.field-0.0)) (c.deref.ensures.value ∙ whole.0) c.in_err-opened.ensures.tries)
     c.in_err-opened.ensures.run _ refl
-    (rw (c.deref.ensures.value, whole.0) at c.in_err-opened.ensures.work) c.in_ok-passphrase.ensures.reads.ends _ refl)
+    (rw (c.deref.ensures.value, whole.0) at
+    (counts_given _ _ c.in_err-opened.ensures.may_fail c.in_err-opened.ensures.work)) c.in_ok-passphrase.ensures.reads.ends _ refl)
 
 -- ---- one of them opened
 
@@ -110,7 +121,7 @@ returns-clause-ok g c known is pass has =
     let short : length pass ≤ max_key_file_len =
     omega (arith, ap length whole.0, c.in_ok-passphrase.passphrase.ok.0, few) in
     let found = c.in_ok-volume.ensures.found.found known is in
-    rw c.area_of.ensures (unlocked_tried c.args.location c.args.slots known pass _ _ _ _ found _
+    rw c.area_of.ensures (unlocked_tried c.args.location (pbkdf2_alone c.args.slots) known pass _ _ _ _ found _
     (Ok c.in_ok-opened.opened) (rw (c.deref.ensures.value, whole.0) at c.in_ok-opened.ensures.tries)
     c.in_ok-opened.ensures.run short whole.1 _ refl)
 
@@ -122,7 +133,7 @@ pub returns-clause-work : goal.returns-clause-work
 returns-clause-work g c known is pass has =
     let whole = c.in_ok-passphrase.ensures.ok pass has in
     let found = c.in_ok-volume.ensures.found.found known is in
-    counts_opened c.args.location c.args.slots known pass _ (Some pass) _ _ found _ (Ok c.in_ok-opened.opened)
+    counts_opened c.args.location (pbkdf2_alone c.args.slots) known pass _ (Some pass) _ _ found _ (Ok c.in_ok-opened.opened)
     (rw (c.deref.ensures.value, whole.0) at c.in_ok-opened.ensures.tries)
     c.in_ok-opened.ensures.run _ refl
     (rw (c.deref.ensures.value, whole.0) at c.in_ok-opened.ensures.work) c.in_ok-passphrase.ensures.reads.ends _ refl
