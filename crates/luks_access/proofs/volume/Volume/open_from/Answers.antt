@@ -13,7 +13,7 @@ use Rattle.luks_access.proofs.volume.Volume.open_from.Goals as goal
 -- the key of each key slot can be derived
 pub try_slots-requires-clause-derives : goal.try_slots-requires-clause-derives
 try_slots-requires-clause-derives g c =
-    let slots = c.in_ok-found.ensures.found.slots in
+    let slots = rw c.allowed_by.ensures at c.in_ok-found.ensures.found.slots in
     let allowed = allowed_by c.args.options.now in
     All-CanDerive c.in_ok-found.found.header allowed.named allowed.limits c.in_ok-found.found.order slots.order
     c.in_ok-found.found.segment slots.segment c.args.pass.now (omega arith)
@@ -23,13 +23,13 @@ pub returns-in_err-found-clause-answers : goal.returns-in_err-found-clause-answe
 returns-in_err-found-clause-answers g c =
     rw (given_error _ _ c.from_residual.ensures.1) (λ known is.
     ends_opening c.args.options.now known c.args.pass.now (Err c.in_err-found.field-0.0) _
-    (opens_unfound _ _ known c.args.pass.now _ _ (c.in_err-found.ensures.err known is))
+    (opens_unfound _ _ known c.args.pass.now _ _ (rw c.allowed_by.ensures at (c.in_err-found.ensures.err known is)))
     (λ passphrase same. absurd (c.in_err-found.ensures.only passphrase (ap Err same))))
 
 -- the passphrase is too long
 pub returns-then-pass-gt-MAX_PASSPHRASE_LEN-clause-answers : goal.returns-then-pass-gt-MAX_PASSPHRASE_LEN-clause-answers
 returns-then-pass-gt-MAX_PASSPHRASE_LEN-clause-answers g c known is =
-    let found = c.in_ok-found.ensures.found.found known is in
+    let found = rw c.allowed_by.ensures at (c.in_ok-found.ensures.found.found known is) in
     let long : max_key_file_len < length c.args.pass.now = omega arith in
     let unread = opens_unread _ _ known c.args.pass.now _ _ found _ TooLong (
       long,
@@ -43,7 +43,7 @@ returns-then-pass-gt-MAX_PASSPHRASE_LEN-clause-answers g c known is =
 -- the key slots were tried
 pub returns-clause-answers : goal.returns-clause-answers
 returns-clause-answers g c known is =
-    let found = c.in_ok-found.ensures.found.found known is in
+    let found = rw c.allowed_by.ensures at (c.in_ok-found.ensures.found.found known is) in
     let then = c.in_ok-unlocked.ensures in
     ends_opening c.args.options.now known c.args.pass.now (Ok c.in_ok-unlocked.unlocked) _
     (opens_as _ _ known c.args.pass.now _ _ found _ _ _ then.run then.tries (omega arith)) tt
@@ -52,7 +52,7 @@ pub returns-in_err-unlocked-clause-answers : goal.returns-in_err-unlocked-clause
 returns-in_err-unlocked-clause-answers g c =
     let then = c.in_err-unlocked.ensures in
     rw (given_error _ _ c.from_residual-in_err-unlocked.ensures.1) (λ known is.
-    let found = c.in_ok-found.ensures.found.found known is in
+    let found = rw c.allowed_by.ensures at (c.in_ok-found.ensures.found.found known is) in
     ends_opening c.args.options.now known c.args.pass.now (Err c.in_err-unlocked.field-0.0) _
     (opens_as _ _ known c.args.pass.now _ _ found _ _ _ then.run then.tries (omega arith))
     (λ passphrase same. absurd (rw same at then.tries)))

@@ -15,7 +15,7 @@ use Rattle.luks_commands.proofs.execute.volumes.unlock.Goals as goal
 -- no key slot needs Argon2
 pub try_slots-requires-clause-derives : goal.try_slots-requires-clause-derives
 try_slots-requires-clause-derives g c =
-    let slots = c.in_ok-volume.ensures.found.slots in
+    let slots = rw c.pbkdf2_alone.ensures at c.in_ok-volume.ensures.found.slots in
     All-IsPbkdf2 c.in_ok-volume.volume.header (pbkdf2_alone c.args.slots).named (pbkdf2_alone c.args.slots).limits
     c.in_ok-volume.volume.order slots.order c.in_ok-volume.volume.segment slots.segment refl
 
@@ -24,7 +24,7 @@ try_slots-requires-clause-derives g c =
 pub returns-in_err-volume-clause-err : goal.returns-in_err-volume-clause-err
 returns-in_err-volume-clause-err g c =
     rw (given_error _ _ c.from_residual.ensures.1) (λ known is pass has.
-    locked_unfound c.args.location (pbkdf2_alone c.args.slots) known pass _ _ _ (c.in_err-volume.ensures.err known is) has)
+    locked_unfound c.args.location (pbkdf2_alone c.args.slots) known pass _ _ _ (rw c.pbkdf2_alone.ensures at (c.in_err-volume.ensures.err known is)) has)
 
 pub returns-in_err-volume-clause-work : goal.returns-in_err-volume-clause-work
 returns-in_err-volume-clause-work g c =
@@ -32,7 +32,7 @@ returns-in_err-volume-clause-work g c =
       record {
         unread = inl refl;
         early = early_unfound c.args.location (pbkdf2_alone c.args.slots) known pass _ (Some pass) _
-            (c.in_err-volume.ensures.err known is);
+            (rw c.pbkdf2_alone.ensures at (c.in_err-volume.ensures.err known is));
       },
       refl,
     ))
@@ -46,7 +46,7 @@ returns-in_err-volume-clause-counts g c =
 pub returns-in_err-passphrase-clause-err : goal.returns-in_err-passphrase-clause-err
 returns-in_err-passphrase-clause-err g c =
     rw (given_error _ _ c.from_residual-in_err-passphrase.ensures.1) (λ known is pass has.
-    locked_unread c.args.location (pbkdf2_alone c.args.slots) known pass _ _ _ _ (c.in_ok-volume.ensures.found.found known is) refl _
+    locked_unread c.args.location (pbkdf2_alone c.args.slots) known pass _ _ _ _ (rw c.pbkdf2_alone.ensures at (c.in_ok-volume.ensures.found.found known is)) refl _
     (c.in_err-passphrase.ensures.err pass has))
 
 pub returns-in_err-passphrase-clause-work : goal.returns-in_err-passphrase-clause-work
@@ -61,7 +61,7 @@ returns-in_err-passphrase-clause-work g c =
 
 pub returns-in_err-passphrase-clause-unneeded : goal.returns-in_err-passphrase-clause-unneeded
 returns-in_err-passphrase-clause-unneeded g c known is none =
-    absurd (there_is_volume c.args.location _ _ _ _ _ _ known c.in_ok-volume.ensures.found is none)
+    absurd (there_is_volume c.args.location _ _ _ _ _ _ known (rw c.pbkdf2_alone.ensures at c.in_ok-volume.ensures.found) is none)
 
 pub returns-in_err-passphrase-clause-counts : goal.returns-in_err-passphrase-clause-counts
 returns-in_err-passphrase-clause-counts g c =
@@ -80,7 +80,7 @@ returns-in_err-opened-clause-err g c =
     let few = c.in_ok-passphrase.ensures.few in
     let short : length pass ≤ max_key_file_len =
     omega (arith, ap length whole.0, c.in_ok-passphrase.passphrase.ok.0, few) in
-    let found = c.in_ok-volume.ensures.found.found known is in
+    let found = rw c.pbkdf2_alone.ensures at (c.in_ok-volume.ensures.found.found known is) in
     locked_tried c.args.location (pbkdf2_alone c.args.slots) known pass _ _ _ _ found _ (Err c.in_err-opened.field-0.0)
     (subst (λ p. TriesSlots (described c.in_ok-volume.volume) c.try_slots.new.volume.area.bytes p
     (Err c.in_err-opened.field-0.0)) (c.deref.ensures.value ∙ whole.0) c.in_err-opened.ensures.tries)
@@ -88,7 +88,7 @@ returns-in_err-opened-clause-err g c =
 
 pub returns-in_err-opened-clause-unneeded : goal.returns-in_err-opened-clause-unneeded
 returns-in_err-opened-clause-unneeded g c known is none =
-    absurd (there_is_volume c.args.location _ _ _ _ _ _ known c.in_ok-volume.ensures.found is none)
+    absurd (there_is_volume c.args.location _ _ _ _ _ _ known (rw c.pbkdf2_alone.ensures at c.in_ok-volume.ensures.found) is none)
 
 pub returns-in_err-opened-clause-counts : goal.returns-in_err-opened-clause-counts
 returns-in_err-opened-clause-counts g c =
@@ -104,7 +104,7 @@ pub returns-in_err-opened-clause-work : goal.returns-in_err-opened-clause-work
 returns-in_err-opened-clause-work g c =
     rw (given_error _ _ c.from_residual-in_err-opened.ensures.1) (λ known is pass has.
     let whole = c.in_ok-passphrase.ensures.ok pass has in
-    let found = c.in_ok-volume.ensures.found.found known is in
+    let found = rw c.pbkdf2_alone.ensures at (c.in_ok-volume.ensures.found.found known is) in
     counts_unopened c.args.location (pbkdf2_alone c.args.slots) known pass _ (Some pass) _ _ found _ (Err c.in_err-opened.field-0.0)
     (subst (λ p. TriesSlots (described c.in_ok-volume.volume) c.try_slots.new.volume.area.bytes p
     (Err c.in_err-opened.field-0.0)) (c.deref.ensures.value ∙ whole.0) c.in_err-opened.ensures.tries)
@@ -120,19 +120,19 @@ returns-clause-ok g c known is pass has =
     let few = c.in_ok-passphrase.ensures.few in
     let short : length pass ≤ max_key_file_len =
     omega (arith, ap length whole.0, c.in_ok-passphrase.passphrase.ok.0, few) in
-    let found = c.in_ok-volume.ensures.found.found known is in
+    let found = rw c.pbkdf2_alone.ensures at (c.in_ok-volume.ensures.found.found known is) in
     rw c.area_of.ensures (unlocked_tried c.args.location (pbkdf2_alone c.args.slots) known pass _ _ _ _ found _
     (Ok c.in_ok-opened.opened) (rw (c.deref.ensures.value, whole.0) at c.in_ok-opened.ensures.tries)
     c.in_ok-opened.ensures.run short whole.1 _ refl)
 
 pub returns-clause-unneeded : goal.returns-clause-unneeded
 returns-clause-unneeded g c known is none =
-    absurd (there_is_volume c.args.location _ _ _ _ _ _ known c.in_ok-volume.ensures.found is none)
+    absurd (there_is_volume c.args.location _ _ _ _ _ _ known (rw c.pbkdf2_alone.ensures at c.in_ok-volume.ensures.found) is none)
 
 pub returns-clause-work : goal.returns-clause-work
 returns-clause-work g c known is pass has =
     let whole = c.in_ok-passphrase.ensures.ok pass has in
-    let found = c.in_ok-volume.ensures.found.found known is in
+    let found = rw c.pbkdf2_alone.ensures at (c.in_ok-volume.ensures.found.found known is) in
     counts_opened c.args.location (pbkdf2_alone c.args.slots) known pass _ (Some pass) _ _ found _ (Ok c.in_ok-opened.opened)
     (rw (c.deref.ensures.value, whole.0) at c.in_ok-opened.ensures.tries)
     c.in_ok-opened.ensures.run _ refl
