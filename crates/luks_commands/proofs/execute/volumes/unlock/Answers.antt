@@ -4,7 +4,8 @@ use Rattle.luks_io.proofs.ErrorLemmas.{given_error}
 use Rattle.luks_runs.proofs.OpeningLemmas.{counts_given}
 use Rattle.luks_runs.proofs.VolumeLemmas.{message_says, reads_on, there_is_volume}
 use Rattle.luks_runs.specs.KeyFile.{max_key_file_len}
-use Rattle.luks_runs.specs.Volume.{TriesSlots, described}
+use Rattle.luks_runs.specs.Volume.{CountsTrials, TriesSlots, described}
+use Rattle.luks_runs.specs.declared.unlocked.UnlockedVolume.{UnlockedVolume}
 use Rattle.luks_runs.specs.Allowed.{pbkdf2_alone}
 use Rattle.luks_commands.proofs.OpenedRuns.{reads_of_image}
 use Rattle.luks_commands.proofs.VolumeRuns.{counts_opened, counts_unopened, early_unfound, locked_tried}
@@ -110,7 +111,10 @@ returns-in_err-opened-clause-work g c =
     (Err c.in_err-opened.field-0.0)) (c.deref.ensures.value ∙ whole.0) c.in_err-opened.ensures.tries)
     c.in_err-opened.ensures.run _ refl
     (rw (c.deref.ensures.value, whole.0) at
-    (counts_given _ _ c.in_err-opened.ensures.may_fail c.in_err-opened.ensures.work)) c.in_ok-passphrase.ensures.reads.ends _ refl)
+    (counts_given {T = UnlockedVolume} (Err c.in_err-opened.field-0.0)
+    (CountsTrials c.in_ok-volume.volume.order c.try_slots.new.volume.area.bytes c.deref.result.now
+    (Err c.in_err-opened.field-0.0) c.args.work.now c.try_slots.new.work)
+    c.in_err-opened.ensures.may_fail c.in_err-opened.ensures.work)) c.in_ok-passphrase.ensures.reads.ends _ refl)
 
 -- ---- one of them opened
 
