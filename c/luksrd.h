@@ -17,8 +17,13 @@
  *         luksrd_read(&cipher, image_len, read_image, &fd, offset, to, len))
  *       return failed;
  *
- * These options set no limit of iterations, so that a hostile header may make luksrd_open take
- * days: `max_iterations` sets one, and its default, 0, is none.
+ * These options set no limit of iterations, and let Argon2 have 4 GiB of memory, so that a hostile
+ * header may make luksrd_open take days: struct luksrd_options has limits.
+ *
+ * Key slots by Argon2, which are LUKS2's default, are tried by luksrd_open and skipped by `luksrd`.
+ * So what is said of `luksrd luksCat` holds if the header has no such slot or `no_argon2` is not 0.
+ * With one, luksrd_open tries more slots, in the same order, and its messages have more reasons. Once
+ * the volume is open, its plaintext is what luksCat writes by the same volume key.
  *
  * luksrd_read is written here, in C, over two functions: luksrd_plan says which bytes of the image
  * the next step reads, and luksrd_finish decrypts them. A caller that cannot wait for a read calls
@@ -38,15 +43,17 @@
  * No function keeps state, so threads may call all of them at once, with the same volume and cipher
  * too. Only luksrd_open, luksrd_open_by_key and luksrd_check_key allocate memory, by malloc, realloc
  * and free. They may not be called from a signal handler, nor from the forked child of a process
- * with threads.
+ * with threads. luksrd_open asks for the memory of a slot by Argon2 in one piece, when the slot's
+ * turn comes, and frees it before it returns.
  *
  * luksrd_open, luksrd_open_by_key and luksrd_check_key need at most 256 KiB of stack, luksrd_prepare
  * 128 KiB, luksrd_wipe_stack 257 KiB, luksrd_read 40 KiB and what `read` needs, and every other
  * function 32 KiB.
  *
  * What is left of keys: luksrd_open, luksrd_open_by_key, luksrd_check_key and luksrd_prepare write
- * over the stack that they used before they return, whatever they return. The caller wipes the passphrase, the volume
- * and the cipher (luksrd_wipe), and what its own functions leave on the stack (luksrd_wipe_stack).
+ * over the stack that they used before they return, whatever they return; luksrd_open also over the
+ * memory of Argon2, before it frees that. The caller wipes the passphrase, the volume and the cipher
+ * (luksrd_wipe), and what its own functions leave on the stack (luksrd_wipe_stack).
  * Parts of keys can stay in registers that nothing has used since. The loader saves registers on the
  * stack when it looks up a function for the first time, unless the program is linked with
  * `-Wl,-z,now`. The library puts no copy elsewhere.
@@ -83,7 +90,9 @@ extern "C" {
 /* The length of the longest sector in bytes. */
 #define LUKSRD_SECTOR_BYTES 4096
 
-/* What a function returns. The codes 1 to 11 are refusals of `luksrd luksCat`. */
+/* What a function returns. The codes 1 to 11 are refusals of `luksrd luksCat`. For luksrd_open,
+ * codes 7, 8 and 10 may be about slots by Argon2, too, and so may 11: the memory of one was refused.
+ */
 enum luksrd_code {
   LUKSRD_OK = 0,
   LUKSRD_NOT_LUKS = 1,        /* the image has no LUKS header */
@@ -116,15 +125,24 @@ enum luksrd_code {
 };
 
 /* How a volume is opened. `{ .size = sizeof(struct luksrd_options) }` is an attached header, every
- * key slot, and no limit of iterations, so that a hostile header may make opening take days. */
+ * key slot, and no limit of iterations, so that a hostile header may make opening take days.
+ *
+ * A key slot by Argon2 is tried if it is within both of its limits, and skipped with a reason
+ * otherwise. If its memory is refused, luksrd_open returns LUKSRD_OUT_OF_MEMORY with the slot and
+ * the memory in the message, and tries no later slot: a named slot or a limit gets around it. */
 struct luksrd_options {
-  uint32_t size;           /* sizeof(struct luksrd_options) */
-  uint32_t detached;       /* not 0: the bytes are those of a detached header */
-  uint32_t has_key_slot;   /* not 0: only key slot number `key_slot` is tried */
-  uint32_t key_slot;       /* 0 to 31 */
-  uint32_t max_iterations; /* the limit of PBKDF2 iterations of a slot or a digest; 0, the default:
-                            * no limit */
-  uint8_t reserved[44];    /* 0 */
+  uint32_t size;              /* sizeof(struct luksrd_options) */
+  uint32_t detached;          /* not 0: the bytes are those of a detached header */
+  uint32_t has_key_slot;      /* not 0: only key slot number `key_slot` is tried */
+  uint32_t key_slot;          /* 0 to 31 */
+  uint32_t max_iterations;    /* the limit of PBKDF2 iterations of a slot or a digest; 0, the
+                               * default: no limit */
+  uint32_t argon2_memory_kib; /* the limit of Argon2's memory in KiB; 0, the default: 4194304, which
+                               * is cryptsetup's own maximum */
+  uint32_t argon2_fill_mib;   /* the limit of the memory that Argon2 fills in all passes, which is
+                               * time * memory, in MiB; 0, the default: 65536 */
+  uint32_t no_argon2;         /* not 0: slots by Argon2 are skipped, as `luksrd` does */
+  uint8_t reserved[32];       /* 0 */
 };
 
 /* How a payload is encrypted: the last part of `aes-..` in a header. */
@@ -226,9 +244,9 @@ struct luksrd_message {
  *   - LUKSRD_BAD_OPTIONS, exactly if has_key_slot is not 0 and key_slot is above 31, `size` is not
  *     sizeof(struct luksrd_options), or a byte of `reserved` is not 0. The message is that of
  *     luksrd_status_text;
- *   - a code from 1 to 11, with the message of `luksrd luksCat`.
- * The time is that of PBKDF2, which the header decides: seconds and more, if it has many iterations
- * and no limit is given. */
+ *   - a code from 1 to 11, with the message of `luksrd luksCat`, but for slots by Argon2.
+ * The time is that of PBKDF2 and Argon2, which the header decides: seconds and more, if it has many
+ * iterations and no limit is given. Nothing cancels it. */
 uint32_t luksrd_open(const uint8_t *header, size_t header_len, const uint8_t *passphrase,
                      size_t passphrase_len, const struct luksrd_options *options,
                      struct luksrd_volume *volume, struct luksrd_message *message) LUKSRD_CHECKED;
@@ -236,8 +254,8 @@ uint32_t luksrd_open(const uint8_t *header, size_t header_len, const uint8_t *pa
 /* Compares a volume key that is known with the digest in a header: for LUKS2 the usable digest with
  * the lowest number that lists segment 0, for LUKS1 the only one.
  *
- * `header` and the options are those of luksrd_open, but no key slot may be named. No key area is
- * looked at. `key` is the key alone, without zeros after it: PBKDF2 does not distinguish a key from
+ * `header` and the options are those of luksrd_open, but no key slot may be named, and those for
+ * Argon2 are ignored. No key area is looked at. `key` is the key alone, without zeros after it: PBKDF2 does not distinguish a key from
  * the same key with zeros after it.
  *
  * Returns LUKSRD_OK if the key matches the whole digest: the message is empty. Or returns:
@@ -249,7 +267,7 @@ uint32_t luksrd_open(const uint8_t *header, size_t header_len, const uint8_t *pa
  *     luksrd_options), or a byte of `reserved` is not 0. The message is that of luksrd_status_text;
  *   - LUKSRD_NOT_LUKS, LUKSRD_TRUNCATED, LUKSRD_JSON, LUKSRD_SEGMENT_REFUSED or
  *     LUKSRD_OUT_OF_MEMORY, with the message of `luksrd luksCat`.
- * The time is that of PBKDF2, as in luksrd_open. */
+ * The time is that of PBKDF2, which the header decides, as in luksrd_open. */
 uint32_t luksrd_check_key(const uint8_t *header, size_t header_len, const uint8_t *key,
                           size_t key_len, const struct luksrd_options *options,
                           struct luksrd_message *message) LUKSRD_CHECKED;
@@ -459,7 +477,10 @@ _Static_assert(offsetof(struct luksrd_options, detached) == 4, "layout");
 _Static_assert(offsetof(struct luksrd_options, has_key_slot) == 8, "layout");
 _Static_assert(offsetof(struct luksrd_options, key_slot) == 12, "layout");
 _Static_assert(offsetof(struct luksrd_options, max_iterations) == 16, "layout");
-_Static_assert(offsetof(struct luksrd_options, reserved) == 20, "layout");
+_Static_assert(offsetof(struct luksrd_options, argon2_memory_kib) == 20, "layout");
+_Static_assert(offsetof(struct luksrd_options, argon2_fill_mib) == 24, "layout");
+_Static_assert(offsetof(struct luksrd_options, no_argon2) == 28, "layout");
+_Static_assert(offsetof(struct luksrd_options, reserved) == 32, "layout");
 _Static_assert(sizeof(struct luksrd_volume) == 112, "layout");
 _Static_assert(offsetof(struct luksrd_volume, offset) == 0, "layout");
 _Static_assert(offsetof(struct luksrd_volume, size) == 8, "layout");

@@ -25,7 +25,12 @@
  *
  *     library modes
  *
- * prints the modes that have names, and the numbers of these names. */
+ * prints the modes that have names, and the numbers of these names.
+ *
+ *     library argon2 IMAGE HEADER PASSPHRASE SLOT MEMORY FILL NONE
+ *
+ * opens a volume, or ends with luksrd's message, and prints the number of the key slot. SLOT is the
+ * only one that is tried, or -; the rest are the options for Argon2 in the order of the struct. */
 #include "library.h"
 
 #include <errno.h>
@@ -277,12 +282,13 @@ static void open_volume(struct bytes header, struct bytes passphrase,
                         struct luksrd_options *options, struct luksrd_volume *volume)
 {
   struct luksrd_message message;
-  struct luksrd_options wrong[3] = { *options, *options, *options };
+  struct luksrd_options wrong[4] = { *options, *options, *options, *options };
   wrong[0].has_key_slot = 1;
   wrong[0].key_slot = 32;
   wrong[1].size--;
-  wrong[2].reserved[43] = 1;
-  for (int i = 0; i < 3; i++)
+  wrong[2].reserved[0] = 1;
+  wrong[3].reserved[31] = 1;
+  for (int i = 0; i < 4; i++)
     must(luksrd_open(header.at, header.len, passphrase.at, passphrase.len, &wrong[i], volume,
                      &message) == LUKSRD_BAD_OPTIONS,
          "options");
@@ -409,14 +415,19 @@ static int print_check(char **argv)
     .size = sizeof options,
     .detached = strcmp(argv[1], "-") != 0,
     .max_iterations = (uint32_t)strtoul(argv[3], NULL, 10),
+    /* (these are ignored) */
+    .argon2_memory_kib = 1,
+    .argon2_fill_mib = UINT32_MAX,
+    .no_argon2 = 2,
   };
   struct bytes header = header_in(options.detached ? argv[1] : argv[0]), key = contents(argv[2]);
   struct luksrd_message message;
-  struct luksrd_options wrong[3] = { options, options, options };
+  struct luksrd_options wrong[4] = { options, options, options, options };
   wrong[0].has_key_slot = 1;
   wrong[1].size--;
-  wrong[2].reserved[43] = 1;
-  for (int i = 0; i < 3; i++)
+  wrong[2].reserved[0] = 1;
+  wrong[3].reserved[31] = 1;
+  for (int i = 0; i < 4; i++)
     must(luksrd_check_key(header.at, header.len, key.at, key.len, &wrong[i], &message) ==
              LUKSRD_BAD_OPTIONS,
          "options for a key");
@@ -506,6 +517,32 @@ static int print_modes(void)
   return 0;
 }
 
+static uint32_t number_in(const char *word)
+{
+  return (uint32_t)strtoul(word, NULL, 10);
+}
+
+static int print_slot(char **argv)
+{
+  struct luksrd_options options = {
+    .size = sizeof options,
+    .detached = strcmp(argv[1], "-") != 0,
+    .has_key_slot = strcmp(argv[3], "-") != 0,
+    .key_slot = number_in(argv[3]),
+    .argon2_memory_kib = number_in(argv[4]),
+    .argon2_fill_mib = number_in(argv[5]),
+    .no_argon2 = number_in(argv[6]),
+  };
+  struct luksrd_volume volume;
+  struct bytes header = header_in(options.detached ? argv[1] : argv[0]);
+  struct bytes passphrase = contents(argv[2]);
+  open_volume(header, passphrase, &options, &volume);
+  printf("%" PRIu32 "\n", volume.key_slot);
+  free(header.at);
+  free(passphrase.at);
+  return 0;
+}
+
 int main(int argc, char **argv)
 {
   must(luksrd_version() == LUKSRD_VERSION, "the version");
@@ -515,6 +552,8 @@ int main(int argc, char **argv)
     return write_ranges(argc - 6, argv + 2);
   if (argc == 6 && strcmp(argv[1], "key") == 0)
     return print_check(argv + 2);
+  if (argc == 9 && strcmp(argv[1], "argon2") == 0)
+    return print_slot(argv + 2);
   if (argc > 3 && strcmp(argv[1], "headers") == 0)
     return print_headers(argc - 3, argv + 2);
   if (argc > 4 && strcmp(argv[1], "fields") == 0)
