@@ -124,6 +124,51 @@ static int take_limit(const char *key, const char *value, uint32_t *max_iteratio
   return take_number32(key, value, 1, UINT32_MAX, max_iterations);
 }
 
+/* Reads a limit of Argon2, in whole units of so many bytes. */
+static int take_argon2_limit(const char *key, const char *value, int64_t unit, uint32_t *limit)
+{
+  if (*limit) {
+    nbdkit_error("%s= is given twice", key);
+    return -1;
+  }
+  const int64_t size = nbdkit_parse_size(value);
+  if (size >= unit && size / unit <= UINT32_MAX) {
+    *limit = (uint32_t)(size / unit);
+    return 0;
+  }
+  nbdkit_error("%s=%s: not a size from %lld to %lld bytes", key, value, (long long)unit,
+               (long long)unit * UINT32_MAX);
+  return -1;
+}
+
+/* Reads whether key slots by Argon2 are tried. */
+static int take_argon2(const char *key, const char *value, struct parameters *parameters)
+{
+  if (parameters->has_argon2) {
+    nbdkit_error("%s= is given twice", key);
+    return -1;
+  }
+  const int is_tried = nbdkit_parse_bool(value);
+  parameters->has_argon2 = true;
+  parameters->no_argon2 = is_tried == 0;
+  if (is_tried >= 0)
+    return 0;
+  nbdkit_error("%s=%s: neither yes nor no", key, value);
+  return -1;
+}
+
+/* Reads a parameter for key slots by Argon2. */
+static int take_argon2_parameter(struct parameters *parameters, const char *key, const char *value)
+{
+  if (strcmp(key, "argon2-memory") == 0)
+    return take_argon2_limit(key, value, 1 << 10, &parameters->argon2_memory_kib);
+  if (strcmp(key, "argon2-fill") == 0)
+    return take_argon2_limit(key, value, 1 << 20, &parameters->argon2_fill_mib);
+  if (strcmp(key, "argon2") == 0)
+    return take_argon2(key, value, parameters);
+  return 1;
+}
+
 /* The value stays where it is until nbdkit ends. */
 static int take_cipher(const char *key, const char *value, const char **cipher)
 {
@@ -192,7 +237,8 @@ int take_parameter(struct parameters *parameters, const char *key, const char *v
     return take_key_slot(key, value, parameters);
   if (strcmp(key, "max-iterations") == 0)
     return take_limit(key, value, &parameters->max_iterations);
-  return take_key_parameter(parameters, key, value);
+  const int taken = take_argon2_parameter(parameters, key, value);
+  return taken > 0 ? take_key_parameter(parameters, key, value) : taken;
 }
 
 /* Whether the parameters of a volume key go together; reports why not. */
@@ -201,6 +247,10 @@ static bool is_whole(const struct parameters *parameters)
   const uint32_t sector_size = parameters->sector_size > 0 ? parameters->sector_size : 512;
   if (parameters->key_file || parameters->passphrase.at || parameters->has_key_slot) {
     nbdkit_error("volume-key-file= does not go with key-file=, passphrase= or key-slot=");
+    return false;
+  }
+  if (parameters->has_argon2 || parameters->argon2_memory_kib || parameters->argon2_fill_mib) {
+    nbdkit_error("volume-key-file= does not go with argon2=, argon2-memory= or argon2-fill=");
     return false;
   }
   if (!parameters->has_payload_offset) {

@@ -15,6 +15,11 @@ struct parameters {
   uint32_t key_slot;       /* the only key slot to try, if there is one */
   uint32_t max_iterations; /* the limit of iterations, or 0 */
 
+  /* the limits of Argon2 for a key slot, or 0 */
+  uint32_t argon2_memory_kib;
+  uint32_t argon2_fill_mib; /* in all passes */
+  bool has_argon2, no_argon2;
+
   /* in place of a passphrase, or NULL: the file with the volume key */
   char *volume_key_file;
   const char *cipher;      /* or NULL */
@@ -37,6 +42,9 @@ struct parameters {
   "header=FILE           The detached header.\n"                                        \
   "key-slot=N            Try this key slot alone, 0 to 31.\n"                           \
   "max-iterations=N      Skip key slots that ask for more iterations of PBKDF2.\n"      \
+  "argon2-memory=SIZE    Skip key slots that ask for more memory for Argon2 than 4G.\n"  \
+  "argon2-fill=SIZE      The same for time * memory, which is 64G if it is not given.\n" \
+  "argon2=no             Skip all key slots by Argon2.\n"                               \
   "volume-key-file=FILE  The file with the volume key: no header is needed.\n"          \
   "payload-offset=N      With that: the first byte of the payload.\n"                   \
   "cipher=NAME           With that: aes-xts-plain64, or another of luksrd's.\n"         \

@@ -191,6 +191,9 @@ static enum outcome use_passphrase(struct volume *volume, const struct bytes *he
     .has_key_slot = parameters->has_key_slot,
     .key_slot = parameters->key_slot,
     .max_iterations = parameters->max_iterations,
+    .argon2_memory_kib = parameters->argon2_memory_kib,
+    .argon2_fill_mib = parameters->argon2_fill_mib,
+    .no_argon2 = parameters->no_argon2,
   };
   struct luksrd_message message;
   struct call call = {

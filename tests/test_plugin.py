@@ -191,6 +191,8 @@ WRONG_PARAMETERS = [
         "payload-offset=512", "cipher=aes-xts-plain64", "sector-size=512", "iv-offset=0")),
     *(("volume-key-file= does not go with key-file=, passphrase= or key-slot=", VOLUME1, KEY1,
        "payload-offset=512", more) for more in (PASS, "passphrase=+pass", "key-slot=0")),
+    *(("volume-key-file= does not go with argon2=, argon2-memory= or argon2-fill=", VOLUME1, KEY1,
+       "payload-offset=512", more) for more in ("argon2=yes", "argon2-memory=1K", "argon2-fill=1M")),
     ("cipher=aes-ecb: none of aes-xts-plain64 aes-xts-plain aes-cbc-essiv:sha256 aes-cbc-plain64",
      VOLUME1, KEY1, "payload-offset=512", "cipher=aes-ecb"),
     (f"{VOLUME1}.key: a key of 64 bytes, this cipher and this sector size do not go together",
@@ -207,6 +209,7 @@ WRONG_PARAMETERS = [
     # one twice
     *((f"{twice.partition('=')[0]}= is given twice", VOLUME1, twice, twice) for twice in (
         "header=pipe", PASS, "key-slot=5", "max-iterations=9", "passphrase=+pass",
+        "argon2-memory=1M", "argon2-fill=1G", "argon2=no", "argon2=yes",
         "volume-key-file=pass", "payload-offset=512", "cipher=aes-xts-plain64", "sector-size=512",
         "iv-offset=0")),
 ]
@@ -223,6 +226,16 @@ NO_NUMBERS = {
 }
 WRONG_PARAMETERS += [(f"{name}={number}: not a number from {numbers}", VOLUME1, by, f"{name}={number}")
             for (name, numbers, by), wrong in NO_NUMBERS.items() for number in wrong.split("|")]
+NO_SIZES = {
+    ("argon2-memory", "1024 to 4398046510080"): "|0|1023|-1K|1Q|many|4T|16E",
+    ("argon2-fill", "1048576 to 4503599626321920"):
+        "|0|1023K|1048575|-1|1.5G|4P|99999999999999999999",
+}
+WRONG_PARAMETERS += [
+    *((f"{name}={size}: not a size from {sizes} bytes", VOLUME1, PASS, f"{name}={size}")
+      for (name, sizes), wrong in NO_SIZES.items() for size in wrong.split("|")),
+    *((f"argon2={word}: neither yes nor no", VOLUME1, PASS, f"argon2={word}")
+      for word in ("", "2", "never"))]
 
 
 @pytest.mark.parametrize("row", WRONG_PARAMETERS, ids=lambda row: " ".join(row[1:]))
@@ -397,6 +410,7 @@ def test_dump_plugin(plugin, line):
 def test_help(way):
     said = must("nbdkit", *way.arguments, "--help").decode()
     for parameter in ("key-file", "passphrase", "header", "key-slot", "max-iterations", "cipher",
+                      "argon2-memory", "argon2-fill", "argon2",
                       "volume-key-file", "payload-offset", "sector-size", "iv-offset", "size"):
         assert len(re.findall(f"^{parameter}=", said, re.MULTILINE)) == 1
     assert way.name == "filter" or "\nfile=" in said
