@@ -88,7 +88,8 @@ class Code(enum.IntEnum):
 
 
 class LuksError(Exception):
-    """luksrd refuses the volume. The text is the message of `luksrd luksCat`."""
+    """luksrd refuses the volume. The text is the message of `luksrd luksCat`, or one in its form about
+    key slots by Argon2, which `luksrd` skips."""
 
     def __init__(self, code: int, status: int, message: str) -> None:
         super().__init__(message)
@@ -162,8 +163,9 @@ _CIPHERS = {number: name for name, number in _MODES.items()}
 
 class _Options(ctypes.Structure):
     _fields_ = [(name, ctypes.c_uint32) for name in (
-        "size", "detached", "has_key_slot", "key_slot", "max_iterations")
-    ] + [("reserved", ctypes.c_uint8 * 44)]
+        "size", "detached", "has_key_slot", "key_slot", "max_iterations", "argon2_memory_kib",
+        "argon2_fill_mib", "no_argon2")
+    ] + [("reserved", ctypes.c_uint8 * 32)]
 
 
 class _Opened(ctypes.Structure):
@@ -728,6 +730,16 @@ class Volume(io.RawIOBase):
             raise ValueError("I/O operation on closed volume")
 
 
+def _limit(name: str, value: Optional[int], unit: int) -> int:
+    """A limit in whole units of so many bytes, as the library has it: 0 is its default."""
+    if value is None:
+        return 0
+    count = operator.index(value) // unit
+    if not 1 <= count <= 4294967295:
+        raise ValueError(f"{name} is {value}, not from {unit} to {unit * 4294967295}")
+    return count
+
+
 def _options(header: Optional[_Path], key_slot: Optional[int],
              max_iterations: Optional[int]) -> _Options:
     if key_slot is not None and not 0 <= key_slot <= 31:
@@ -819,8 +831,10 @@ def _opened_volume(path: Union[_Path, Image], image: _Part, key: _Key, key_slot:
 
 def open(path: Union[_Path, Image], *, passphrase: Optional[_Passphrase] = None,
          key_file: Optional[_Path] = None, header: Optional[_Path] = None,
-         key_slot: Optional[int] = None, max_iterations: Optional[int] = None, offset: int = 0,
-         length: Optional[int] = None, head: Optional[_Bytes] = None,
+         key_slot: Optional[int] = None, max_iterations: Optional[int] = None,
+         argon2_memory: Optional[int] = None, argon2_fill: Optional[int] = None,
+         argon2: bool = True, offset: int = 0, length: Optional[int] = None,
+         head: Optional[_Bytes] = None,
          buffering: int = 0) -> Union[Volume, io.BufferedReader]:
     """Opens the volume in an image by a passphrase.
 
@@ -833,6 +847,11 @@ def open(path: Union[_Path, Image], *, passphrase: Optional[_Passphrase] = None,
     key_slot        the only key slot to try, 0 to 31
     max_iterations  skip each key slot that needs more iterations of PBKDF2, for itself or for its
                     digest. Without it there is no limit, and a hostile header may take days
+    argon2_memory   skip each key slot that needs more bytes of memory for Argon2, whole KiB of this;
+                    4 GiB if it is not given
+    argon2_fill     the same for the memory that Argon2 fills in all passes (time * memory), whole
+                    MiB; 64 GiB if it is not given
+    argon2          False skips all key slots by Argon2, as `luksrd` does
     offset, length  the image is this part of the file, as a partition is of a disk: so many bytes
                     from this one on. Without a length it ends with the file
     head            the first bytes of the image, if the caller has them: at least its headers and
@@ -845,10 +864,14 @@ def open(path: Union[_Path, Image], *, passphrase: Optional[_Passphrase] = None,
     if no key opens it. Raises OSError if a file cannot be opened or read, and TypeError or
     ValueError for arguments that cannot be. Warns by IncompleteImageWarning of an image that is
     incomplete, of a part that ends past its file, or of bytes after the header that cannot be
-    read."""
+    read. If the memory for a slot is refused, the LuksError has code OUT_OF_MEMORY and names the
+    slot: no later one is tried."""
     if (passphrase is None) == (key_file is None):
         raise TypeError("either passphrase or key_file is needed")
     options, buffering = _options(header, key_slot, max_iterations), operator.index(buffering)
+    options.argon2_memory_kib = _limit("argon2_memory", argon2_memory, 1 << 10)
+    options.argon2_fill_mib = _limit("argon2_fill", argon2_fill, 1 << 20)
+    options.no_argon2 = not argon2
     with contextlib.ExitStack() as cleanup:
         image, first, key = _begin(cleanup, path, header, offset, length, head)
         given = passphrase.encode() if isinstance(passphrase, str) else passphrase

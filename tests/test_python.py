@@ -233,9 +233,11 @@ def each_error(table):
 
 @each_error({
     TypeError: [{"key_file": None}, {"passphrase": "a passphrase"}, {"key_file": 0}, {"header": 0},
-                {"key_file": None, "passphrase": 5}],
+                {"key_file": None, "passphrase": 5}, {"argon2_memory": 1e9}, {"argon2_fill": "1G"}],
     ValueError: [{"key_slot": 32}, {"key_slot": -1}, {"max_iterations": 0},
-                 {"max_iterations": 2 ** 32}],
+                 {"max_iterations": 2 ** 32},
+                 *({"argon2_memory": size} for size in (0, -1, 1023, 2 ** 42)),
+                 *({"argon2_fill": size} for size in (0, -1, 2 ** 20 - 1, 2 ** 52))],
     FileNotFoundError: [{"key_file": "absent"}, {"header": "absent"}],
     IsADirectoryError: [{"key_file": "."}, {"header": "."}]})
 def test_wrong_arguments(options, error):
