@@ -307,7 +307,8 @@ CASES = {
         {"plain.img": "ext4", "fstab": FSTAB}, ["UUID: {uuid}"]),
     "Argon2 in a disk": Case(
         {"disk.img": "argon2 ext4", "whole.img": "disk argon2 ext4"},
-        ["RESCUE.md:# 6144: the start of partition 2"], GIVES_FSTAB),
+        ["README.md:2. One file of a whole disk"], GIVES_FSTAB,
+        ["whole.img2 : start=        6144,"], links=False),
     # what helps a truncated ext file system takes nothing from what is none
     "no ext file system": Case(
         {"disk.img": "luks2 zeros"},
