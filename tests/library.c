@@ -27,10 +27,15 @@
  *
  * prints the modes that have names, and the numbers of these names.
  *
- *     library argon2 IMAGE HEADER PASSPHRASE SLOT MEMORY FILL NONE
+ *     library limited IMAGE HEADER PASSPHRASE SLOT MEMORY FILL NONE
  *
- * opens a volume, or ends with luksrd's message, and prints the number of the key slot. SLOT is the
- * only one that is tried, or -; the rest are the options for Argon2 in the order of the struct. */
+ * writes the plain text, too, within the limits of Argon2, which are the options in the order of
+ * the struct. SLOT is the only key slot that is tried, or -.
+ *
+ *     library memory IMAGE PASSPHRASE
+ *
+ * prints how many KiB opening adds to the most that the process has had in memory. Then it waits
+ * for a line from standard input, wipes what it has, prints one, and waits again. */
 #include "library.h"
 
 #include <errno.h>
@@ -522,8 +527,10 @@ static uint32_t number_in(const char *word)
   return (uint32_t)strtoul(word, NULL, 10);
 }
 
-static int print_slot(char **argv)
+/* Writes the plain text within limits. */
+static int write_limited(char **argv)
 {
+  static struct luksrd_cipher cipher;
   struct luksrd_options options = {
     .size = sizeof options,
     .detached = strcmp(argv[1], "-") != 0,
@@ -534,12 +541,58 @@ static int print_slot(char **argv)
     .no_argon2 = number_in(argv[6]),
   };
   struct luksrd_volume volume;
+  struct bytes image = contents(argv[0]), passphrase = contents(argv[2]);
   struct bytes header = header_in(options.detached ? argv[1] : argv[0]);
-  struct bytes passphrase = contents(argv[2]);
   open_volume(header, passphrase, &options, &volume);
-  printf("%" PRIu32 "\n", volume.key_slot);
+  const size_t len = luksrd_len(&volume, image.len);
+  must(luksrd_prepare(&volume, &cipher) == LUKSRD_OK &&
+           luksrd_decrypt(&cipher, 0, image.at + volume.offset, len) == LUKSRD_OK &&
+           fwrite(image.at + volume.offset, 1, len, stdout) == len,
+       "the plain text");
+  free(image.at);
   free(header.at);
   free(passphrase.at);
+  return 0;
+}
+
+/* The most that the process has had in memory, in KiB. */
+static long most_memory(void)
+{
+  char line[256];
+  long most = -1;
+  FILE *status = fopen("/proc/self/status", "r");
+  must(status != NULL, "/proc/self/status");
+  while (fgets(line, sizeof line, status))
+    if (strncmp(line, "VmHWM:", 6) == 0)
+      most = strtol(line + 6, NULL, 10);
+  fclose(status);
+  must(most > 0, "VmHWM");
+  return most;
+}
+
+static int print_memory(char **argv)
+{
+  static struct luksrd_cipher cipher;
+  static struct luksrd_volume volume;
+  struct luksrd_options options = { .size = sizeof options };
+  struct luksrd_message message;
+  struct bytes header = header_in(argv[0]), passphrase = contents(argv[1]);
+  setvbuf(stdout, NULL, _IOLBF, 0);
+  setvbuf(stdin, NULL, _IONBF, 0);
+  const long before = most_memory();
+  must(luksrd_open(header.at, header.len, passphrase.at, passphrase.len, &options, &volume,
+                   &message) == LUKSRD_OK,
+       message.text);
+  printf("%ld\n", most_memory() - before);
+  must(luksrd_prepare(&volume, &cipher) == LUKSRD_OK && getchar() == '\n', "a line");
+  luksrd_wipe(passphrase.at, passphrase.len);
+  luksrd_wipe(&volume, sizeof volume);
+  luksrd_wipe(&cipher, sizeof cipher);
+  luksrd_wipe_stack();
+  free(header.at);
+  free(passphrase.at);
+  printf("wiped\n");
+  must(getchar() == '\n', "a line");
   return 0;
 }
 
@@ -552,8 +605,10 @@ int main(int argc, char **argv)
     return write_ranges(argc - 6, argv + 2);
   if (argc == 6 && strcmp(argv[1], "key") == 0)
     return print_check(argv + 2);
-  if (argc == 9 && strcmp(argv[1], "argon2") == 0)
-    return print_slot(argv + 2);
+  if (argc == 9 && strcmp(argv[1], "limited") == 0)
+    return write_limited(argv + 2);
+  if (argc == 4 && strcmp(argv[1], "memory") == 0)
+    return print_memory(argv + 2);
   if (argc > 3 && strcmp(argv[1], "headers") == 0)
     return print_headers(argc - 3, argv + 2);
   if (argc > 4 && strcmp(argv[1], "fields") == 0)

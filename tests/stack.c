@@ -5,7 +5,7 @@
  * prints for each call, as it succeeds and as it is refused, whether it needs no more stack than
  * luksrd.h states, and what it leaves there: 8 bytes of the passphrase, of a key or of an expanded
  * key, or, if it writes over what it used, other bytes than zeros. DERIVED is a file with the key
- * that PBKDF2 derives for the key slot. */
+ * that is derived for the key slot. */
 #include "library.h"
 
 #include <pthread.h>

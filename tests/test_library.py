@@ -14,6 +14,7 @@ import shutil
 import border
 import pytest
 import volumes
+from argon2_slots import Cost, rewrite
 from kinds import CUT, LUKS1, NO_LUKS, REFUSED, VOLUME1, VOLUME2, each_kind
 from support import TOP, USAGE, expect, must, needs, run, runs_v3
 from volumes import cryptsetup
@@ -384,7 +385,9 @@ def nest(tree):
     ("luks2", "aes-xts-plain64", 512, "sha256", None),
     ("luks1", "aes-cbc-essiv:sha256", 256, "sha512", None),
     ("luks2", "aes-cbc-plain64", 128, "sha1", None),
-    ("luks2", "aes-xts-plain64", 512, "sha256", nest)])
+    ("luks2", "aes-xts-plain64", 512, "sha256", nest),
+    pytest.param("luks2", "aes-xts-plain64", 512, "sha256", Cost("argon2id", 2, 80, 5),
+                 marks=needs("argon2"))])
 def test_stack(build, library, each_library, tmp_path, kind, cipher, bits, hash_, change):
     """Each call needs no more stack than luksrd.h states, and leaves no part of a secret on it."""
     image, secret, derived = (tmp_path / name for name in ("image", "secret", "derived"))
@@ -393,9 +396,12 @@ def test_stack(build, library, each_library, tmp_path, kind, cipher, bits, hash_
     os.truncate(image, 20 << 20)
     cryptsetup(f"luksFormat --type {kind} --pbkdf pbkdf2 --pbkdf-force-iterations 1000 --cipher",
                cipher, "--key-size", str(bits), "--hash", hash_, "--key-file", secret, image)
-    if change:
-        volumes.edit_metadata(image, change)
-    derived.write_bytes(derived_key(image))
+    if isinstance(change, Cost):
+        derived.write_bytes(rewrite(image, "0", SECRET, SECRET, change))
+    else:
+        derived.write_bytes(derived_key(image))
+        if change:
+            volumes.edit_metadata(image, change)
     shutil.copy(each_library, tmp_path / "libluksrd.so.2")
     # the loader saves registers on the stack when it looks up a function
     stack = build("stack", "stack.c", library, "-Wl,-z,now")
