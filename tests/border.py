@@ -110,7 +110,9 @@ class Rattle:
             self.functions[name] = (result, [(kind.replace("uint8_t", "void"), field)
                                              for kind, field in rows])
         self.exported = len(re.findall(r'no_mangle|extern "C"', self.source))
-        self.codes = {f"LUKSRD_{NAMES.get(name, snake(name).upper())}": whole(number)
+        constants = dict(re.findall(r"const (\w+): u32 = (\w+);", self.source))
+        self.codes = {f"LUKSRD_{NAMES.get(name, snake(name).upper())}":
+                      whole(constants.get(number, number))
                       for name, number in re.findall(
                           r"(?:Message::)?(\w+)(?:\([^)]*\))? => (\w+),", self.arms("code_of"))}
         self.codes |= {f"LUKSRD_{name}": whole(number) for name, number in re.findall(
