@@ -208,7 +208,7 @@ pages:
 	bench/page
 
 # What the measurements need, before the first of them begins. MACHINE reaches them by the environment.
-BENCH_TOOLS := hyperfine cryptsetup valgrind python3 cc openssl /usr/bin/time qemu-img nbdkit nbdcopy grub-fstest
+BENCH_TOOLS := hyperfine cryptsetup argon2 valgrind python3 cc openssl /usr/bin/time qemu-img nbdkit nbdcopy grub-fstest
 
 bench: export MACHINE ?= $(shell uname -n)
 bench: $(if $(AS_BUILT),,all $(PROGRAM_V3) $(TOOLS_V2) $(TOOLS_V3) library nbdkit)

@@ -4,6 +4,7 @@ row, and what each column runs. One more row, or column, is one more entry in su
 import hashlib
 import os
 import shutil
+import sys
 from typing import Callable, NamedTuple
 
 from programs import AUDIT, MIB, OUT, TOP, V2, completed, cryptsetup, formatted, volume
@@ -95,6 +96,29 @@ def opening(at):
             "cryptsetup": Time(by_cryptsetup),
             "cryptsetup without SHA instructions": Time([*NO_SHA, *by_cryptsetup]),
         }
+
+
+def argon2(at):
+    """Seconds of deriving a key of 32 bytes by Argon2id, 4 passes in 1 lane."""
+    for row, kib in {"64 MiB": 64 << 10, "1 GiB": 1 << 20}.items():
+        by_argon2 = f"printf passphrase | argon2 0123456789abcdef -id -t 4 -k {kib} -p 1 -l 32 -r"
+        yield row, {
+            **{it.name: Time([it.tools, "argon2", "argon2id", 4, kib, 1]) for it in at.builds},
+            "argon2": Time(["sh", "-c", by_argon2]),
+        }
+
+
+def unlocking(at):
+    """Seconds, by the clock, of opening a volume whose key slot needs Argon2id: 4 passes over 1 GiB in 4 lanes. luksrd
+    fills them one after the other, cryptsetup at once."""
+    image = formatted(at.folder, "argon2", ["--type", "luks2", "--pbkdf", "argon2id", "--pbkdf-force-iterations", "4",
+                                            "--pbkdf-memory", str(1 << 20), "--pbkdf-parallel", "4"], 32 * MIB)
+    by_python = [sys.executable, "-c", "import luksrd, sys; luksrd.open(sys.argv[1], open(sys.argv[2], 'rb').read())"]
+    yield "1 GiB", {
+        **{it.name: Time(["env", f"PYTHONPATH={TOP / 'python'}", f"LUKSRD_LIBRARY={it.library}", *by_python, image,
+                          at.passphrase]) for it in at.builds},
+        "cryptsetup": Time(["cryptsetup", "open", "--test-passphrase", "--key-file", at.passphrase, image]),
+    }
 
 
 def cipher(at):
@@ -198,6 +222,38 @@ def serving(at):
         served_by["nbdkit's luks filter"] = lambda of: by_filter(at, of)
         yield row, {name: Time(served(arguments(image), copy), served(arguments(small), copy))
                     for name, arguments in served_by.items()}
+
+
+def rescuing(at):
+    """MB/s, by the clock, of a whole volume by luksrd-rescue on this many cores, and by others, which use one."""
+    image, small = volume(at.folder, LARGE), volume(at.folder, SECTOR)
+    over = ["env", f"LUKSRD_LIBRARY={V2.library}", f"LUKSRD_AUDIT={AUDIT}"]
+
+    def by_rescue(cores, of):
+        pinned = ["taskset", "-c", f"0-{cores - 1}"]
+        return [*over, *pinned, TOP / "rescue" / "luksrd-rescue", "decrypt", of, "--key-file", at.passphrase, "--quiet",
+                "--force", "-o", at.folder / "out"]
+
+    columns = {"luksCat": V2.name, "qemu-img": "qemu-img"}
+    whole, least = readers(at, image), readers(at, small)
+    for cores in range(1, os.cpu_count() + 1):
+        yield f"{cores} {'core' if cores == 1 else 'cores'}", {
+            "luksrd-rescue": Time(by_rescue(cores, image), by_rescue(cores, small)),
+            **({column: Time(whole[it], least[it]) for column, it in columns.items()} if cores == 1 else {}),
+        }
+
+
+def auditing(at):
+    """Seconds of auditing 5,000 files with headers, half of them LUKS1, half LUKS2."""
+    of1 = formatted(at.folder, "audited1", ["--type", "luks1", "--pbkdf-force-iterations", "1000"])
+    of2 = formatted(at.folder, "audited2", ["--type", "luks2", "--pbkdf", "pbkdf2", "--pbkdf-force-iterations", "1000"])
+    images = at.folder / "audited"
+    images.mkdir()
+    for number in range(2500):
+        for image, length in (of1, 4096), (of2, MIB):
+            with open(image, "rb") as file:
+                (images / f"{image.name}-{number}").write_bytes(file.read(length))
+    yield "5,000 headers", {"luksrd-audit": Time(["sh", "-c", '"$0" "$1"/*', AUDIT, images], status=1)}
 
 
 def searching(at):
@@ -304,11 +360,15 @@ TABLES = {
     "keys": Table(keys, lambda seconds: seconds * 1e9 / ITERATIONS, result=key_printed),
     "iterations": Table(iterations),
     "opening": Table(opening),
+    "argon2": Table(argon2, result=key_printed),
+    "unlocking": Table(unlocking, by_clock=True),
     "cipher": Table(cipher, lambda seconds: CIPHERED / seconds / 1e6),
     "cipher-instructions": Table(cipher_instructions),
     "volumes": Table(volumes, result=sum_of_bytes),
     "sectors": Table(sectors),
     "serving": Table(serving, lambda seconds: LARGE / seconds / 1e6, by_clock=True),
+    "rescuing": Table(rescuing, lambda seconds: LARGE / seconds / 1e6, by_clock=True),
+    "auditing": Table(auditing),
     "searching": Table(searching),
     "memory": Table(memory),
 }

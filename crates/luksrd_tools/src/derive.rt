@@ -17,14 +17,17 @@ mod blockwise;
 
 const MAX_KEY: usize = 512;
 
-const PASS: &[u8] = b"passphrase";
+/// The passphrase of each key.
+pub const PASS: &[u8] = b"passphrase";
 
-const SALT: &[u8] = b"0123456789abcdef";
+/// The salt of each key.
+pub const SALT: &[u8] = b"0123456789abcdef";
 
-// Bytes in hexadecimal digits.
+/// Bytes in hexadecimal digits.
 #[derive(Drop)]
-struct Hex<'a> {
-    bytes: &'a [u8],
+pub struct Hex<'a> {
+    /// The bytes.
+    pub bytes: &'a [u8],
 }
 
 impl<'a> fmt::Display for Hex<'a> {
