@@ -165,14 +165,25 @@ def by_filter(at, image):
     return ["--filter=luks", "file", image, f"passphrase=+{at.passphrase}"]
 
 
-def by_plugin(at, build, image):
-    """The plugin in a folder with the library that it is to load, and its arguments."""
+def modules(at, build):
+    """A folder with the plugin, the filter, and the library of this build, which they are to load."""
     folder = at.folder / build.name.replace(", ", "-")
     if not folder.exists():
         folder.mkdir()
         shutil.copy(build.library, folder / "libluksrd.so.2")
-        shutil.copy(OUT / "nbdkit-luksrd-plugin.so", folder)
-    return [folder / "nbdkit-luksrd-plugin.so", image, f"key-file={at.passphrase}"]
+        for module in ("plugin", "filter"):
+            shutil.copy(OUT / f"nbdkit-luksrd-{module}.so", folder)
+    return folder
+
+
+def by_plugin(at, build, image):
+    """The plugin, and its arguments."""
+    return [modules(at, build) / "nbdkit-luksrd-plugin.so", image, f"key-file={at.passphrase}"]
+
+
+def by_our_filter(at, build, image):
+    """The filter over nbdkit's file plugin, and their arguments."""
+    return [f"--filter={modules(at, build) / 'nbdkit-luksrd-filter.so'}", "file", image, f"key-file={at.passphrase}"]
 
 
 def readers(at, image):
@@ -219,6 +230,7 @@ def serving(at):
     for row, copy in {"1 connection": "--connections=1", "4 connections": "--connections=4"}.items():
         served_by = {f"{it.name}'s plugin".replace("luksrd, v3's plugin", "luksrd's plugin, v3"):
                      lambda of, it=it: by_plugin(at, it, of) for it in at.builds}
+        served_by["luksrd's filter"] = lambda of: by_our_filter(at, V2, of)
         served_by["nbdkit's luks filter"] = lambda of: by_filter(at, of)
         yield row, {name: Time(served(arguments(image), copy), served(arguments(small), copy))
                     for name, arguments in served_by.items()}
