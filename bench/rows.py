@@ -57,7 +57,6 @@ class Bench(NamedTuple):
 
 def keys(at):
     """Nanoseconds of an iteration for a whole key."""
-    by_c = compiled(at.folder, "pbkdf2")
     for name in HASHES[::2]:
         digest, short = name.replace("-", ""), name.replace("-", "").lower()
         for length in (16, 32, 64):
@@ -66,23 +65,19 @@ def keys(at):
                           "pass:passphrase", "-kdfopt", "salt:0123456789abcdef", "-kdfopt", f"iter:{ITERATIONS}",
                           "PBKDF2"]
             yield f"{name}, {length} bytes", {
-                **{it.name: Time([it.tools, "derive", "luks_kdf", *arguments]) for it in at.builds},
+                **{it.name: Time([it.tools, "derive", *arguments]) for it in at.builds},
                 "OpenSSL": Time(by_openssl),
                 "OpenSSL without SHA instructions": Time([*NO_SHA, *by_openssl]),
-                "C, gcc -O2": Time([by_c, *arguments]),
             }
 
 
 def iterations(at):
-    """Instructions of an iteration for a whole key; `blockwise` is how luksrd 1.0.0 derived keys, block by block."""
+    """Instructions of an iteration for a whole key."""
     for name in HASHES:
         for length in (16, 32, 64):
-            ways = {it.name: (it.tools, "luks_kdf") for it in at.builds}
-            if name in ("SHA-1", "SHA-256"):
-                ways["blockwise"] = V2.tools, "blockwise"
             yield f"{name}, {length} bytes", {
-                column: twice(lambda count: [tools, "derive", way, name.replace("-", "").lower(), count, length])
-                for column, (tools, way) in ways.items()}
+                it.name: twice(lambda count: [it.tools, "derive", name.replace("-", "").lower(), count, length])
+                for it in at.builds}
 
 
 def opening(at):

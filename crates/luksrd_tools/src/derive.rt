@@ -1,10 +1,8 @@
-//! Derives keys, and reports the cost: `derive luks_kdf sha256 100000 64` derives a key of 64 bytes
+//! Derives keys by PBKDF2, and reports the cost: `derive sha256 100000 64` derives a key of 64 bytes
 //! with 100000 iterations, and writes the evaluations of HMAC, the nanoseconds of processor time
 //! and the key to standard error. Each further number is one more length, and gets a line of its
-//! own. `blockwise` in place of `luks_kdf` derives the blocks of a key one after the other, by
-//! SHA-1 or SHA-256. With no further arguments, or with others, it does nothing.
-//! `tests/test_keys.py` compares the keys with hashlib's, and `bench/measure` the cost with that of
-//! others.
+//! own. With no further arguments, or with others, it does nothing. `tests/test_keys.py` compares
+//! the keys with hashlib's, and `bench/measure` the cost with that of others.
 
 ghost use Rattle.std.specs.Prelude.{◌≤◌};
 
@@ -12,8 +10,6 @@ use luks_kdf::{Hash, Work, pbkdf2};
 use std::env::Args;
 use std::time::CpuClock;
 use std::{fmt, io};
-
-mod blockwise;
 
 const MAX_KEY: usize = 512;
 
@@ -41,7 +37,7 @@ impl<'a> fmt::Display for Hex<'a> {
 
 /// Derives and measures as these arguments request.
 pub fn run(rt: &HostRuntime, mut args: Args) -> io::Result<()> {
-    let (Some(way), Some(name), Some(number)) = (args.next(), args.next(), args.next()) else {
+    let (Some(name), Some(number)) = (args.next(), args.next()) else {
         return Ok(());
     };
     let Some(hash) = Hash::from_name(name.as_str()) else {
@@ -51,20 +47,14 @@ pub fn run(rt: &HostRuntime, mut args: Args) -> io::Result<()> {
     for arg in args {
         let length = arg.as_str().parse::<usize>().unwrap_or(0);
         if iterations > 0 && length > 0 && length <= MAX_KEY {
-            measure(rt, way.as_str(), hash, iterations, length)?;
+            measure(rt, hash, iterations, length)?;
         }
     }
     Ok(())
 }
 
-// Derives one key of this length in this way, and writes its cost.
-fn measure(
-    rt: &HostRuntime,
-    way: &str,
-    hash: Hash,
-    iterations: u32,
-    length: usize,
-) -> io::Result<()>
+// Derives one key of this length, and writes its cost.
+fn measure(rt: &HostRuntime, hash: Hash, iterations: u32, length: usize) -> io::Result<()>
     requires iterations { 1 ≤ iterations }
     requires some { 1 ≤ length }
     requires capacity { length ≤ MAX_KEY }
@@ -73,15 +63,7 @@ fn measure(
     let key = &mut key[..length];
     let mut work = Work::new(0);
     let start = rt.process_cpu_time()?;
-    let count = match (way, hash) {
-        ("luks_kdf", _) => {
-            pbkdf2(hash, PASS, SALT, iterations, key, &mut work);
-            work.count()
-        }
-        ("blockwise", Hash::Sha1) => blockwise::by_sha1(PASS, SALT, iterations, key),
-        ("blockwise", Hash::Sha256) => blockwise::by_sha256(PASS, SALT, iterations, key),
-        _ => return Ok(()),
-    };
+    pbkdf2(hash, PASS, SALT, iterations, key, &mut work);
     let elapsed = rt.process_cpu_time()?.saturating_sub(start);
-    eprintln!(rt; "{count} {} {}", elapsed.as_nanos(), Hex { bytes: key })
+    eprintln!(rt; "{} {} {}", work.count(), elapsed.as_nanos(), Hex { bytes: key })
 }
