@@ -91,8 +91,8 @@ extern "C" {
 #define LUKSRD_SECTOR_BYTES 4096
 
 /* What a function returns. The codes 1 to 11 are refusals of `luksrd luksCat`. For luksrd_open,
- * codes 7, 8 and 10 may be about slots by Argon2, too, and so may 11: the memory of one was refused.
- */
+ * codes 2, 7, 8, 10 and 11 may be about slots by Argon2, too: 2 if the key area of one is not whole,
+ * even if another slot opens, and 11 if the memory of one is refused. */
 enum luksrd_code {
   LUKSRD_OK = 0,
   LUKSRD_NOT_LUKS = 1,        /* the image has no LUKS header */
@@ -129,7 +129,10 @@ enum luksrd_code {
  *
  * A key slot by Argon2 is tried if it is within both of its limits, and skipped with a reason
  * otherwise. If its memory is refused, luksrd_open returns LUKSRD_OUT_OF_MEMORY with the slot and
- * the memory in the message, and tries no later slot: a named slot or a limit gets around it. */
+ * the memory in the message, and tries no later slot: a named slot or a limit gets around it.
+ *
+ * A library before version 1.3.0 (0x010300 by luksrd_version) does not know the three fields for
+ * Argon2: it returns LUKSRD_BAD_OPTIONS if one of them is not 0, and skips these slots if all are. */
 struct luksrd_options {
   uint32_t size;              /* sizeof(struct luksrd_options) */
   uint32_t detached;          /* not 0: the bytes are those of a detached header */
@@ -255,8 +258,8 @@ uint32_t luksrd_open(const uint8_t *header, size_t header_len, const uint8_t *pa
  * the lowest number that lists segment 0, for LUKS1 the only one.
  *
  * `header` and the options are those of luksrd_open, but no key slot may be named, and those for
- * Argon2 are ignored. No key area is looked at. `key` is the key alone, without zeros after it: PBKDF2 does not distinguish a key from
- * the same key with zeros after it.
+ * Argon2 are ignored. No key area is looked at. `key` is the key alone, without zeros after it:
+ * PBKDF2 does not distinguish a key from the same key with zeros after it.
  *
  * Returns LUKSRD_OK if the key matches the whole digest: the message is empty. Or returns:
  *   - LUKSRD_OTHER_KEY, with the message of luksrd_status_text, if it does not, or if the cipher in
