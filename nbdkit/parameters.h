@@ -42,8 +42,8 @@ struct parameters {
   "header=FILE           The detached header.\n"                                        \
   "key-slot=N            Try this key slot alone, 0 to 31.\n"                           \
   "max-iterations=N      Skip key slots that ask for more iterations of PBKDF2.\n"      \
-  "argon2-memory=SIZE    Skip key slots that ask for more memory for Argon2 than 4G.\n"  \
-  "argon2-fill=SIZE      The same for time * memory, which is 64G if it is not given.\n" \
+  "argon2-memory=SIZE    Skip key slots that need more memory for Argon2 (default: 4G).\n" \
+  "argon2-fill=SIZE      The same for time * memory (default: 64G).\n"                   \
   "argon2=no             Skip all key slots by Argon2.\n"                               \
   "volume-key-file=FILE  The file with the volume key: no header is needed.\n"          \
   "payload-offset=N      With that: the first byte of the payload.\n"                   \
