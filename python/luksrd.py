@@ -868,6 +868,9 @@ def open(path: Union[_Path, Image], *, passphrase: Optional[_Passphrase] = None,
     slot: no later one is tried."""
     if (passphrase is None) == (key_file is None):
         raise TypeError("either passphrase or key_file is needed")
+    # (a text such as "no" would turn it on)
+    if not isinstance(argon2, bool):
+        raise TypeError(f"argon2 is {argon2!r}, neither True nor False")
     options, buffering = _options(header, key_slot, max_iterations), operator.index(buffering)
     options.argon2_memory_kib = _limit("argon2_memory", argon2_memory, 1 << 10)
     options.argon2_fill_mib = _limit("argon2_fill", argon2_fill, 1 << 20)

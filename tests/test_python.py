@@ -233,7 +233,8 @@ def each_error(table):
 
 @each_error({
     TypeError: [{"key_file": None}, {"passphrase": "a passphrase"}, {"key_file": 0}, {"header": 0},
-                {"key_file": None, "passphrase": 5}, {"argon2_memory": 1e9}, {"argon2_fill": "1G"}],
+                {"key_file": None, "passphrase": 5}, {"argon2_memory": 1e9}, {"argon2_fill": "1G"},
+                *({"argon2": word} for word in ("no", "False", "", None, 0, 1))],
     ValueError: [{"key_slot": 32}, {"key_slot": -1}, {"max_iterations": 0},
                  {"max_iterations": 2 ** 32},
                  *({"argon2_memory": size} for size in (0, -1, 1023, 2 ** 42)),
