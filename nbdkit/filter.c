@@ -220,8 +220,8 @@ static bool has_volume(const struct connection *connection)
 }
 
 /* Opens the volume, for this connection and for all others. If this export is refused, that of a
- * later connection may be another one; if a read failed or there was no memory, a later connection
- * tries again. Returns whether it is open. */
+ * later connection may be another one; if a read failed, or there was no memory but Argon2's, a later
+ * connection tries again. Returns whether it is open. */
 static bool open_for_all(struct connection *connection)
 {
   const enum outcome outcome = open_below(&connection->below);

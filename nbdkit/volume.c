@@ -180,6 +180,16 @@ static enum outcome use_volume_key(struct volume *volume, const struct bytes *he
   return REFUSED;
 }
 
+/* Whether the memory that was refused is Argon2's: the message then names the key slot, too. Header
+ * and limits decide how much that is, and deriving the keys of the slots before may take minutes, so
+ * such a volume is refused for good. */
+static bool is_of_argon2(const struct luksrd_message *message)
+{
+  struct luksrd_message sentence;
+  luksrd_status_text(LUKSRD_OUT_OF_MEMORY, &sentence);
+  return message->len > sentence.len;
+}
+
 /* Opens a volume by a passphrase. */
 static enum outcome use_passphrase(struct volume *volume, const struct bytes *header,
                                    const struct bytes *passphrase,
@@ -212,7 +222,7 @@ static enum outcome use_passphrase(struct volume *volume, const struct bytes *he
     report(parameters->key_file, &message);
   else
     report(parameters->header ? parameters->header : volume->name, &message);
-  return code == LUKSRD_OUT_OF_MEMORY ? TRY_LATER : REFUSED;
+  return code == LUKSRD_OUT_OF_MEMORY && !is_of_argon2(&message) ? TRY_LATER : REFUSED;
 }
 
 enum outcome unlock(struct volume *volume, const struct bytes *header, const struct bytes *secret,

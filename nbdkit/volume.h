@@ -43,8 +43,8 @@ int read_header(const char *name, int fd, const struct parameters *parameters,
  * is not there. */
 bool are_enough(const struct bytes *start, const struct parameters *parameters);
 
-/* The end of an attempt to open a volume: it is open; it is refused, and will be; or, if memory was
- * short or a read failed, it may open later. */
+/* The end of an attempt to open a volume: it is open; it is refused, and will be, also if memory for
+ * Argon2 was; or, if other memory was short or a read failed, it may open later. */
 enum outcome { OPENED, REFUSED, TRY_LATER };
 
 /* Tries a passphrase on a header, the detached one if the parameters name one; or, if they name a

@@ -15,7 +15,7 @@ from kinds import START, VOLUME1, VOLUME2
 from serving import (SIZE, by_filter, connected, in_threads, needs_nbdkit, read,  # noqa: F401
                      read_all, reads_ranges)
 from support import must, needs
-from volumes import copy_of, cryptsetup, overwrite, with_own_uuid
+from volumes import copy_of, cryptsetup, edit_metadata, overwrite, with_own_uuid
 
 pytestmark = needs_nbdkit
 PASS = "key-file=pass"
@@ -220,6 +220,19 @@ def test_a_plugin_that_looks_at_no_names(exports, below, names, wanted, paramete
 def test_a_second_connection(exports):
     sizes, said = exports("a b", below=("file", "plain"))
     assert (sizes, said.count(NO_LUKS), said.count(REFUSED_BEFORE)) == ([None, None], 1, 1)
+
+
+@pytest.mark.parametrize("key", ["pass2", "wrong"])
+def test_refused_memory_of_argon2(by_filter, tmp_path, key):
+    """The header asks for it each time, so the second client is refused at once: no key is derived for it."""
+    image = copy_of(by_filter.kinds / "argon2", tmp_path / "image")
+    edit_metadata(image, lambda tree: tree["keyslots"]["1"]["kdf"].update(memory=4194304))
+    server = by_filter.serve("file", image, f"key-file={key}",
+                             before=["bash", "-c", 'ulimit -v 2000000; exec "$@"', "bash"])
+    assert [export_size(server.uri, "") for _ in range(3)] == [None] * 3
+    said = server.said()
+    assert said.count("luksrd: out of memory: Argon2 needs 4194304 KiB for key slot 1\n") == 1, said
+    assert said.count(REFUSED_BEFORE) == 2
 
 
 def test_refused_at_once(by_filter, exports):
