@@ -109,6 +109,32 @@ def test_opens(way, parameters):
     way.gives_kind(VOLUME1, VOLUME1, *parameters)
 
 
+@pytest.fixture
+def of_one_mib(way, cached):
+    """A copy of VOLUME2 whose slot 1 takes 1 MiB in 5 passes."""
+    def make(path):
+        copy_of(way.kinds / VOLUME2, path)
+        cryptsetup("luksConvertKey --key-slot 1 --pbkdf argon2id --pbkdf-memory 1024 --pbkdf-parallel 1 "
+                   "--pbkdf-force-iterations 5 --key-file", way.kinds / "pass2", path)
+
+    return cached("of-one-mib", make)
+
+
+@pytest.mark.parametrize("parameters, reason", [
+    ([], ""), (["argon2=yes"], ""), (["argon2=on", "argon2-memory=4G", "argon2-fill=64G"], ""),
+    (["argon2-memory=1M"], ""), (["argon2-memory=1024K"], ""), (["argon2-memory=2048s"], ""),
+    (["argon2-memory=1023K"], "argon2 memory limit"), (["argon2-memory=1048575"], "argon2 memory limit"),
+    (["argon2-fill=5M"], ""), (["argon2-fill=5120K"], ""), (["argon2-fill=1T"], ""),
+    (["argon2-fill=4M"], "argon2 fill limit"), (["argon2-fill=5119K"], "argon2 fill limit"),
+    (["argon2=no"], "argon2id"), (["argon2=off", "argon2-memory=1M"], "argon2id")], ids=str)
+def test_argon2(way, of_one_mib, parameters, reason):
+    """A size may have a suffix; 2,048 sectors of 512 bytes are 1 MiB, too."""
+    if reason:
+        way.refuses(f"{NO_KEY}; skipped: 1 ({reason}", of_one_mib, "key-file=pass2", *parameters)
+    else:
+        way.gives(way.kinds.text(VOLUME2), of_one_mib, "key-file=pass2", *parameters)
+
+
 @pytest.mark.parametrize("form", ["key-file={}", "key-file=/dev/stdin", "passphrase=-{}"])
 def test_passphrase_from_a_pipe(way, piped, form):
     name, how = piped(way.kinds / "pass")
