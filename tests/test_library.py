@@ -150,6 +150,25 @@ def test_fields(in_c, kinds, tmp_path, size, wanted):
     expect(in_c("fields", image, kinds / "pass2", *lengths), wanted)
 
 
+def test_a_header_that_ends_in_an_area_of_argon2(in_c, kinds, tmp_path):
+    """The key areas of all slots that are tried are needed, also if an earlier slot opens: slot 0 here."""
+    slots = volumes.metadata(kinds / "argon2")[0]["keyslots"]
+    areas = [int(slots[number]["area"]["offset"]) for number in "01"]
+    assert areas[0] < areas[1] and [slots[number]["kdf"]["type"] for number in "01"] == ["pbkdf2", "argon2id"]
+    cut = tmp_path / "cut"
+    cut.write_bytes((kinds / "argon2").read_bytes()[:areas[1] + 512])
+
+    def ends(slot, memory, none, message=""):
+        expect(in_c("limited", "argon2", cut, "pass", slot, memory, "0", none),
+               b"" if message else kinds.text("argon2"), message, 4 if message else 0)
+
+    ends("-", "0", "0", CUT)
+    ends("-", "32", "0", CUT)
+    ends("-", "31", "0")
+    ends("-", "0", "1")
+    ends("0", "0", "0")
+
+
 def test_a_fixed_size_is_read(reader, kinds, tmp_path):
     (tmp_path / "kinds").symlink_to(kinds.folder)
     with_fields(tmp_path / "image", "12884901888")

@@ -14,7 +14,7 @@ import zipfile
 
 import pytest
 import volumes
-from support import TOP, expect, must, run, wait_until
+from support import TOP, expect, must, needs, run, wait_until
 
 sys.path.insert(0, str(TOP / "python"))
 sys.dont_write_bytecode = True
@@ -164,6 +164,24 @@ def test_head_that_is_too_short(volume):
     assert (caught.value.code, str(caught.value)) == (2, "luksrd: image ends inside the header or a key area")
     with pytest.raises(luksrd.NotLuksError):
         by_passphrase(volume, head=b"")
+
+
+@needs("cryptsetup")
+def test_head_that_ends_in_an_area_of_argon2(loaded, made2, tmp_path):
+    """The key areas of all slots that are tried are needed, also if an earlier slot opens."""
+    image = volumes.copy_of(made2("aes-xts-plain64", 512, plain=TEXT), tmp_path / "image")
+    volumes.cryptsetup("luksConvertKey --key-slot 1 --pbkdf argon2id --pbkdf-memory 32 --pbkdf-parallel 1 "
+                       "--pbkdf-force-iterations 4 --key-file -", image, stdin=volumes.PASS2)
+    slots = volumes.metadata(image)[0]["keyslots"]
+    areas = [int(slots[number]["area"]["offset"]) for number in "01"]
+    assert areas[0] < areas[1] and [slots[number]["kdf"]["type"] for number in "01"] == ["pbkdf2", "argon2id"]
+    head = image.read_bytes()[:areas[1] + 512]
+    with pytest.raises(luksrd.LuksError) as caught:
+        luksrd.open(image, passphrase=volumes.PASS, head=head)
+    assert (caught.value.code, str(caught.value)) == (2, "luksrd: image ends inside the header or a key area")
+    for options in {"argon2": False}, {"key_slot": 0}, {"argon2_memory": 31 << 10}:
+        with luksrd.open(image, passphrase=volumes.PASS, head=head, **options) as opened:
+            assert (opened.key_slot, opened.pread(len(TEXT), 0)) == (0, TEXT)
 
 
 def test_volume_in_a_volume(volume, tmp_path, made1):
