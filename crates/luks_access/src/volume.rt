@@ -64,8 +64,12 @@ impl Volume {
     /// [`VolumeFault::Argon2Memory`], and no later slot is tried.
     ///
     /// Without such limits, the volume is the one that `luksCat` opens with these options, and a
-    /// fault is the one that `luksCat` reports. A passphrase longer than [`MAX_PASSPHRASE_LEN`] is refused, as a key file
-    /// is. As many bytes of the source are consumed as `testPassphrase` consumes.
+    /// fault is the one that `luksCat` reports. A passphrase longer than [`MAX_PASSPHRASE_LEN`] is
+    /// refused, as a key file is.
+    ///
+    /// The source is consumed as `testPassphrase` consumes it: for the header, and up to the end of
+    /// the last key material to be tried, which may be that of a slot by Argon2. If a read fails or
+    /// memory runs out, no more than that is consumed.
     pub fn open_from<S: Source>(
         alloc: Global,
         options: &Options,
