@@ -5,6 +5,7 @@ import errno
 import os
 import random
 import re
+import resource
 import socket
 import struct
 import threading
@@ -15,7 +16,7 @@ from kinds import START, VOLUME1, VOLUME2
 from serving import (SIZE, by_filter, connected, in_threads, needs_nbdkit, read,  # noqa: F401
                      read_all, reads_ranges)
 from support import must, needs
-from volumes import copy_of, cryptsetup, edit_metadata, overwrite, with_own_uuid
+from volumes import copy_of, cryptsetup, edit_metadata, nested_header, overwrite, with_own_uuid
 
 pytestmark = needs_nbdkit
 PASS = "key-file=pass"
@@ -222,17 +223,34 @@ def test_a_second_connection(exports):
     assert (sizes, said.count(NO_LUKS), said.count(REFUSED_BEFORE)) == ([None, None], 1, 1)
 
 
+def within(kib):
+    """The command before one that gets so much address space."""
+    return ["bash", "-c", f'ulimit -Sv {kib}; exec "$@"', "bash"]
+
+
 @pytest.mark.parametrize("key", ["pass2", "wrong"])
 def test_refused_memory_of_argon2(by_filter, tmp_path, key):
     """The header asks for it each time, so the second client is refused at once: no key is derived for it."""
     image = copy_of(by_filter.kinds / "argon2", tmp_path / "image")
     edit_metadata(image, lambda tree: tree["keyslots"]["1"]["kdf"].update(memory=4194304))
-    server = by_filter.serve("file", image, f"key-file={key}",
-                             before=["bash", "-c", 'ulimit -v 2000000; exec "$@"', "bash"])
+    server = by_filter.serve("file", image, f"key-file={key}", before=within(2000000))
     assert [export_size(server.uri, "") for _ in range(3)] == [None] * 3
     said = server.said()
     assert said.count("luksrd: out of memory: Argon2 needs 4194304 KiB for key slot 1\n") == 1, said
     assert said.count(REFUSED_BEFORE) == 2
+
+
+def test_other_memory_that_is_short(by_filter, tmp_path):
+    """If there is none for what is in the header, each later client tries again."""
+    image = tmp_path / "image"
+    image.write_bytes(nested_header(4 << 20, b'{"":' * 100 + b"0" + b"}" * 100, 8300))
+    server = by_filter.serve("file", image, PASS, before=within(400000))
+    assert [export_size(server.uri, "") for _ in range(2)] == [None] * 2
+    assert server.said().count("luksrd: out of memory\n") == 2, server.said()
+    resource.prlimit(server.process.pid, resource.RLIMIT_AS, (resource.RLIM_INFINITY, resource.RLIM_INFINITY))
+    assert export_size(server.uri, "") is None
+    said = server.said()
+    assert (said.count("luksrd: segment refused: segments\n"), said.count(REFUSED_BEFORE)) == (1, 0), said
 
 
 def test_refused_at_once(by_filter, exports):

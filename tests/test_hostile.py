@@ -4,13 +4,12 @@ import os
 import pathlib
 import re
 import resource
-import struct
 import time
 
 import pytest
 from hostile_headers import Volume1, Volume2, draw, generated
 from support import FULL, NO_KEY, expect
-from volumes import overwrite, passphrases, with_checksum
+from volumes import nested_header, overwrite, passphrases
 
 SEED = int(os.environ.get("SEED", time.time()))
 RUNS = int(os.environ.get("RUNS", 50000))
@@ -50,10 +49,7 @@ def test_damaged_header(luksrd, here, name, offset, content, line, output, messa
 
 def test_large_header(luksrd, tmp_path):
     """A header of LUKS2 of 1 MiB, whose JSON text is nested a hundred deep; also in little memory."""
-    size = 1 << 20
-    text = b'{"keyslots":{},"segments":{},"digests":{},"x":[' + b",".join([b"[" * 100 + b"]" * 100] * 2487) + b"]}"
-    header = struct.pack(">6sHQQ48s32s64s40s48sQ", b"LUKS\xba\xbe", 2, size, 1, b"", b"sha256", b"", b"a header", b"", 0)
-    (tmp_path / "image").write_bytes(with_checksum((header.ljust(4096, b"\0") + text).ljust(size, b"\0")))
+    (tmp_path / "image").write_bytes(nested_header(1 << 20, b"[" * 100 + b"]" * 100, 2487))
     expect(luksrd("luksUUID image"), "a header\n")
     little = lambda: resource.setrlimit(resource.RLIMIT_AS, (30000 << 10, 30000 << 10))
     expect(luksrd("luksUUID image", preexec_fn=little), message="luksrd: out of memory", status=3)
