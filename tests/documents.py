@@ -55,7 +55,7 @@ def example(page, text):
 
 
 def commands_in(place):
-    """The commands of a place such as README.md:1. A volume."""
+    """The commands of a place such as RECIPES.md:Try the passphrase."""
     name, _, text = place.partition(":")
     commands = (example if name.endswith(".1") else recipe)(name, text)
     assert commands, f"no commands after: {place}"
@@ -68,14 +68,14 @@ def first_lines(place):
         return ["mkdir -m 700 rescue && cd rescue && ln -s ../disk.img .",
                 *example("luksrd.1", "Keep new files private"),
                 *example("luksrd.1", "Type a passphrase into a key file")]
-    return recipe("README.md", "Begin with these lines")
+    return recipe("RECIPES.md", "Begin with these lines")
 
 
 def not_run(name, places, but):
     """The lines of commands in a document that are in none of these recipes, but for comments and
     those that match this."""
     ran = {line for place in places for line in commands_in(place)}
-    ran |= set(recipe("README.md", "Begin with these lines"))
+    ran |= set(recipe("RECIPES.md", "Begin with these lines"))
     lines = re.findall(r"^    (.*)", document(name).read_text(), re.MULTILINE)
     return [line for line in lines
             if line not in ran and not line.startswith("# ") and not re.match(but, line)]

@@ -505,7 +505,7 @@ def test_man_page():
     assert run("mandoc", "-Tlint", "-Wwarning", PAGE) == (0, b"", "")
 
 
-README_AUDIT = "README.md:4. Audit of a folder"
+README_AUDIT = "README.md:## Audit headers"
 RESCUE_SEARCH = "RESCUE.md:# The place, version and UUID"
 
 
@@ -530,6 +530,11 @@ def columns(*words):
     return "\t".join(map(str, words)) + "\n"
 
 
+def by_readme(cook):
+    """What README's command prints in the folder of images."""
+    return run(*SHELLS[cook.shell], "-c", "\n".join(commands_in(README_AUDIT)), cwd=cook.images, env=cook.environment)
+
+
 @needs("jq", "zsh")
 def test_audit_of_a_folder(cook, images):
     """One image ends in its second header, one is empty, and one is short."""
@@ -537,13 +542,29 @@ def test_audit_of_a_folder(cook, images):
     (images / "cut.img").write_bytes((images / "second.img").read_bytes()[:20000])
     (images / "short.img").write_bytes((images / "disk.img").read_bytes()[:500])
     weak2 = [2, "slot 0 iterations", "slot 1 iterations"]
-    assert (columns("../cut.img", *weak2, "secondary header: not valid")
-            + columns("../disk.img", 1, "segment cbc", "slot 0 iterations", "slot 0 sha1",
-                      "slot 0 cbc", "slot 5 iterations", "slot 5 sha1", "slot 5 cbc",
-                      "digest 0 sha1")
-            + columns("../empty.img", "no LUKS header")
-            + columns("../second.img", *weak2)
-            + columns("../short.img", "header is truncated")) in cook([README_AUDIT]).said
+    ended = by_readme(cook)
+    assert ended.output.decode() == (
+        columns("cut.img", *weak2, "secondary header: not valid")
+        + columns("disk.img", 1, "segment cbc", "slot 0 iterations", "slot 0 sha1", "slot 0 cbc", "slot 5 iterations",
+                  "slot 5 sha1", "slot 5 cbc", "digest 0 sha1")
+        + columns("empty.img", "no LUKS header")
+        + columns("second.img", *weak2)
+        + columns("short.img", "header is truncated")), ended
+
+
+@needs("jq", "zsh")
+def test_what_readme_shows(cook):
+    """Its three lines are those of a new volume, of an old one, and of no volume."""
+    for name, options in {
+            "laptop.img": "--type luks2 --pbkdf argon2id --pbkdf-force-iterations 4 --pbkdf-memory 65536",
+            "old.img": "--type luks1 --cipher aes-cbc-essiv:sha256 --hash sha256 --pbkdf-force-iterations 1000"}.items():
+        with open(cook.images / name, "wb") as file:
+            file.truncate(20 << 20)
+        must("cryptsetup", "-q", "luksFormat", *options.split(), cook.images / name, "-", stdin=b"a passphrase")
+    (cook.images / "photo.img").write_bytes(os.urandom(4096))
+    shown = re.search(r"^## Audit headers.*?^```text\n(.*?)^```$", document("README.md").read_text(), re.M | re.S)[1]
+    ended = by_readme(cook)
+    assert ended.output.decode() == shown, ended
 
 
 @needs("jq", "zsh")

@@ -1,7 +1,8 @@
-"""The commands of README, the guides and the man pages run as they are written there, in bash and
-in zsh, on volumes of cryptsetup and qemu-img: they write the plaintext, all files that they make
-are private, and no image changes, not even one with a damaged secondary header. Mounting is tried
-by what RESCUE.md says of it; what needs a disk or a device mapper is left out."""
+"""The commands of the guides and the man pages run as they are written there, in bash and in zsh,
+on volumes of cryptsetup and qemu-img: they write the plaintext, all files that they make are
+private, and no image changes, not even one with a damaged secondary header. Mounting is tried by
+what RESCUE.md says of it; what needs a disk or a device mapper is left out. README's commands are
+run by tests/test_rescue_laptops.py and tests/test_audit.py."""
 
 import os
 import re
@@ -9,7 +10,7 @@ import typing
 
 import pytest
 import volumes
-from documents import SHELLS, Cook, document, not_run, programs, recipe, web_server
+from documents import SHELLS, Cook, document, not_run, programs, web_server
 from support import (NO_KEY, TOP, alone, expect, must, namespace, needs, run, wait_until)
 from volumes import PASS, copy_of, cryptsetup
 
@@ -21,6 +22,7 @@ QUICK = "--pbkdf pbkdf2 --pbkdf-force-iterations 1000"
 ARGON2 = "--pbkdf argon2id --pbkdf-force-iterations 4 --pbkdf-memory 32768 --pbkdf-parallel 1"
 # what tests/test_rescue_laptops.py runs, and what it prints
 RESCUE = "luksrd-rescue |UUID |slot "
+MOUNT = "mount |or without root: "
 PROTOTYPE = "/\n0 0\nd--755 0 0\netc d--755 0 0\nfstab ---644 0 0 files/etc/fstab\n$\n$\n"
 
 
@@ -231,7 +233,7 @@ def window(name, first, end):
 
 
 VOLUME = {"disk.img": "luks1 inside"}
-FIRST, WINDOW = window("inside", 0, MIB), window("inside", MIB, 5 * MIB)
+FIRST = window("inside", 0, MIB)
 WHOLE = {"whole.img": "disk luks2 ext4", "disk.img": "luks2 ext4"}
 BACKUP = {"disk.img": "without_header luks2 inside", "backup": "backup luks2 inside"}
 PARTITION = {"disk.img": "luks2 inside", "whole.img": "partition1 luks2 inside"}
@@ -247,19 +249,12 @@ CASES = {
         {"plain.img": "inside", "plain2.img": "inside", "plain3.img": "inside", "first": FIRST,
          "plain4.img": "inside", "inside": b"inside\n", "pass": None},
         ["luksrd: write failed", SLOT, 'TYPE="ext4"', " inside"]),
-    "a volume by README": Case(
-        VOLUME, ["README.md:1. A volume", "README.md:3. Part of a volume", "README.md:At the end"],
-        {"plain.img": "inside", "window": WINDOW, "pass": None},
-        [SLOT, f'TYPE="ext4"\n{8 * MIB}']),
     "a volume by the man page": Case(
         VOLUME | {"disk.img.zst": "zst luks1 inside", "NAME": "luks1 inside"},
         ["luksrd.1:Decrypt a volume into a file", "luksrd.1:Decrypt the first bytes alone",
          "luksrd.1:Read a file whose name", "luksrd.1:Check a header from a stranger"],
         {"plain.img": "inside", "plain3.img": "inside", "plain4.img": "inside", "first": FIRST},
         [f"clean\n{SLOT}", "UUID: {uuid}"]),
-    "one file of a disk by README": Case(
-        WHOLE, ["README.md:2. One file of a whole disk"], GIVES_FSTAB,
-        ["whole.img2 : start=        6144,"], links=False),
     "one file of a disk": Case(
         WHOLE, ["RECIPES.md:What is in it", "RECIPES.md:One file out of it"],
         {"fstab": FSTAB, "plain.img": "ext4"},
@@ -290,8 +285,7 @@ CASES = {
         [f"clean\n{SLOT}", 'TYPE="ext4"']),
     "a damaged header by the man page": Case(
         BACKUP, ["luksrd.1:Decrypt a volume whose header is damaged"], {"plain.img": "inside"}),
-    "Argon2": Case(ARGON2_ALONE, ["README.md:Argon2 key slots only: add"], {"plain5.img": "inside"}),
-    "Argon2 by the recipes": Case(
+    "Argon2": Case(
         ARGON2_ALONE, ["RECIPES.md:# Argon2 key slots only: add"], {"plain5.img": "inside", "copy": None}),
     "Argon2 by the man page": Case(
         ARGON2_ALONE, ["luksrd.1:Decrypt a LUKS2 volume that has key slots by Argon2"],
@@ -307,8 +301,7 @@ CASES = {
         {"plain.img": "ext4", "fstab": FSTAB}, ["UUID: {uuid}"]),
     "Argon2 in a disk": Case(
         {"disk.img": "argon2 ext4", "whole.img": "disk argon2 ext4"},
-        ["README.md:2. One file of a whole disk"], GIVES_FSTAB,
-        ["whole.img2 : start=        6144,"], links=False),
+        ["RECIPES.md:One file out of it"], {"fstab": FSTAB, "plain.img": "ext4"}),
     # what helps a truncated ext file system takes nothing from what is none
     "no ext file system": Case(
         {"disk.img": "luks2 zeros"},
@@ -323,7 +316,7 @@ CASES = {
          f" of {8 * MIB} bytes are left"]),
     "which passphrase it was": Case(
         {"disk.img": "luks2 ext4", "candidates": "candidates"},
-        ["RESCUE.md:# Without it, one after the other", "RESCUE.md:# Line 2 as the key file"],
+        ["RESCUE.md:# One line after the other", "RESCUE.md:# Line 2 as the key file"],
         {"pass": PASS}, [f"{SLOT}\nline 2"]),
     "noise": Case({"disk.img": "ext4", "plain.img": "ext4"},
                   ["RESCUE.md:# A partition table, a header"], {},
@@ -428,15 +421,9 @@ def test_recipes_by_other_tools(plain_cook, stock, name):
     cooked(plain_cook, stock, PLAIN_CASES[name])
 
 
-def test_first_lines():
-    """Both documents begin in the same way."""
-    first = recipe("README.md", "Begin with these lines")
-    assert first and recipe("RECIPES.md", "Begin with these lines") == first
-
-
 @pytest.mark.parametrize("name, but", [
-    ("README.md", f"make |mount |luksrd-audit |{RESCUE}"), ("RECIPES.md", "mount "),
-    ("RESCUE.md", f"luksrd-audit |mount |ddrescue |{RESCUE}"), ("MIGRATION.md", "luksrd-audit "), ("PROGRAMMERS.md", "cc ")])
+    ("README.md", f"make |apt |ddrescue |luksrd-audit |    jq |{MOUNT}|{RESCUE}"), ("RECIPES.md", "mount "),
+    ("RESCUE.md", f"luksrd-audit |ddrescue |file |{MOUNT}|{RESCUE}"), ("MIGRATION.md", "luksrd-audit "), ("PROGRAMMERS.md", "cc ")])
 def test_whole_document(name, but):
     """Each line of commands is in a recipe that is run here."""
     places = [place for case in {**CASES, **PLAIN_CASES, **MORE}.values() for place in case.places]
@@ -631,9 +618,8 @@ def test_programmers(cook, stock):
 # ---- what the documents say of luksrd's answers
 
 def test_answers(luksrd, stock, tmp_path):
-    """The answers of luksDump that README's first table begins with, each from a volume of its
-    kind."""
-    table = re.search(r"^\| It prints.*?\n\n", document("README.md").read_text(), re.M | re.S)[0]
+    """The answers of luksDump in a table of RESCUE.md, each from a volume of its kind."""
+    table = re.search(r"^\| It prints.*?\n\n", document("RESCUE.md").read_text(), re.M | re.S)[0]
     cells = re.findall(r"^\| (`[^|]*) \|", table, re.MULTILINE)
     stated = [name.removesuffix(" ..") for cell in cells
               for name in re.findall(r"`((?:Slot|luksrd|Segment)[^`]*)", cell)]
@@ -647,6 +633,23 @@ def test_answers(luksrd, stock, tmp_path):
         answers.append("Segment: REFUSED" if len(answers) == 4 and "Segment: REFUSED" in found
                        else found[0])
     assert answers == stated
+
+
+@needs("file", "gzip")
+def test_what_file_says(stock, tmp_path):
+    """It begins with what RESCUE.md has, for an image of each kind."""
+    table = re.search(r"^\| `file` says.*?\n\n", document("RESCUE.md").read_text(), re.M | re.S)[0]
+    stated = re.findall(r"`([^`]+)`", "".join(re.findall(r"^\|( `[^|]*) \|", table, re.MULTILINE)[1:]))
+    must("qemu-img", "convert", "-f", "raw", "-O", "vmdk", stock("ext4"), tmp_path / "vmdk")
+    (tmp_path / "gzip").write_bytes(must("gzip", "-c", stock("ext4")))
+    (tmp_path / "lvm").write_bytes(bytes(512) + b"LABELONE".ljust(24, b"\0") + b"LVM2 001" + bytes(4096))
+    (tmp_path / "zeros").write_bytes(bytes(4096))
+    images = [stock(name) for name in ("disk luks2 ext4", "luks2 ext4", "qcow2 luks2 ext4")]
+    images += [tmp_path / "vmdk", stock("xz luks2 ext4"), tmp_path / "gzip", stock("ext4"), stock("ntfs"),
+               tmp_path / "lvm", tmp_path / "zeros"]
+    said = [must("file", "-b", image).decode() for image in images]
+    assert [text for text, image in zip(stated, said) if text not in image] == []
+    assert len(stated) == len(said)
 
 
 @needs("systemd-cryptenroll")

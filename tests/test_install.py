@@ -170,8 +170,7 @@ def test_documents(make_program, tmp_path):
 
     assert unlinked(documents / "README.md") == unlinked(TOP / "README.md")
     assert re.findall(r"[^(]* in the sources", (documents / "README.md").read_text()) == [
-        f"{name} in the sources" for name in (
-            "docs/ARCHITECTURE.md", "docs/HEADLINE.md", "docs/DECISIONS.md", "CONTRIBUTING.md", "CHANGELOG.md")]
+        "CONTRIBUTING.md in the sources"] * 2
     number, broken = broken_links(documents)
     assert number > 50
     assert broken == []

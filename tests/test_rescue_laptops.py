@@ -46,7 +46,8 @@ def encrypted(path, plain, kdf):
 
 
 def physical_volume(folder, loop, root, swap_length):
-    """A physical volume of LVM2 with a logical volume of swap space and one with this file system, in two pieces."""
+    """A physical volume of LVM2 with a logical volume of swap space and one with this file system, in two pieces; or,
+    without swap space, in one piece."""
     path = folder / "physical"
     path.touch()
     os.truncate(path, 4 * MIB + len(root) + swap_length)
@@ -59,10 +60,12 @@ def physical_volume(folder, loop, root, swap_length):
         command, *words = line.split()
         return must("lvm", command, "--driverloaded", "n", "--config", config, *words).decode()
 
-    first = len(root) // MIB - 4
-    for line in (f"pvcreate -q {device}", f"vgcreate -q -s 1M --setautoactivation n vg0 {device}",
-                 f"lvcreate -q -an -Zn -Wn -n root -l {first} vg0",
-                 f"lvcreate -q -an -Zn -Wn -n swap -l {swap_length // MIB} vg0", "lvextend -q -l +4 vg0/root"):
+    more = 4 if swap_length else 0
+    lines = [f"pvcreate -q {device}", f"vgcreate -q -s 1M --setautoactivation n vg0 {device}",
+             f"lvcreate -q -an -Zn -Wn -n root -l {len(root) // MIB - more} vg0"]
+    if more:
+        lines += [f"lvcreate -q -an -Zn -Wn -n swap -l {swap_length // MIB} vg0", f"lvextend -q -l +{more} vg0/root"]
+    for line in lines:
         lvm(line)
     start = int(lvm(f"pvs --noheadings --units b --nosuffix -o pe_start {device}"))
     content = bytearray(path.read_bytes())
@@ -244,14 +247,14 @@ class TestBadSectors:
 
 # ---- README and RESCUE.md
 
-def shown_in(name):
-    """What this document says that `look` prints."""
-    return re.search(r"^```text\n(laptop\.img: .*?)^```$", document(name).read_text(), re.MULTILINE | re.DOTALL)[1]
+def shown_in(name, first):
+    """What this document says that a command prints, which begins with this."""
+    return re.search(rf"^```text\n({re.escape(first)}.*?)\n```$", document(name).read_text(), re.MULTILINE | re.DOTALL)[1]
 
 
 def documented_disk(folder, text):
-    """A disk like the one in the documents, with the numbers that these have."""
-    uuid, iterations = re.search(r"UUID ([0-9a-f-]{36})", text)[1], re.search(r"sha256, ([0-9,]+) iter", text)[1]
+    """A disk like the one in the documents, with the UUID that these have."""
+    uuid = re.search(r"UUID ([0-9a-f-]{36})", text)[1]
     passphrases(folder)
     path = folder / "laptop.img"
     for name, length in ("volume", 20 * MIB), ("laptop.img", 16 << 30):
@@ -259,8 +262,8 @@ def documented_disk(folder, text):
         os.truncate(folder / name, length)
     must("sfdisk", "-q", path, stdin=b"label: gpt\nstart=2048, size=1048576, type=uefi, name=\"EFI System Partition\"\n"
          b"size=1048576, type=linux\nsize=+, type=linux\n")
-    cryptsetup("luksFormat --type luks2 --pbkdf pbkdf2 --key-file pass --pbkdf-force-iterations",
-               iterations.replace(",", ""), "--uuid", uuid, "volume", cwd=folder)
+    cryptsetup("luksFormat --type luks2 --key-file pass --pbkdf argon2id --pbkdf-force-iterations 4",
+               f"--pbkdf-memory {1 << 20} --uuid", uuid, "volume", cwd=folder)
     for name in "efi", "boot":
         (folder / name).touch()
         os.truncate(folder / name, 512 * MIB)
@@ -271,15 +274,14 @@ def documented_disk(folder, text):
             volumes.overwrite(path, offset * MIB, file.read(20 * MIB))
 
 
-def test_what_the_documents_show(rescue, tmp_path):
-    """What look prints of a disk like that; the commands after it depend on the room that there is."""
-    text = shown_in("README.md")
-    assert shown_in("RESCUE.md") == text
-    documented_disk(tmp_path, text)
+def test_what_look_prints(rescue, tmp_path):
+    """What the documents show of a disk like that; the commands after it depend on the room that there is."""
+    wanted, _, wanted_steps = shown_in("RESCUE.md", "laptop.img: ").partition("\n\n")
+    assert shown_in("README.md", "laptop.img: ") == wanted
+    documented_disk(tmp_path, wanted)
     ended = rescue("look", "laptop.img")
     assert ended.status == 0, ended
     printed, _, steps = ended.output.decode().partition("\n\n")
-    wanted, _, wanted_steps = text.partition("\n\n")
     assert printed == wanted
 
     def commands(lines):
@@ -287,6 +289,24 @@ def test_what_the_documents_show(rescue, tmp_path):
                       if line.startswith("    "))
 
     assert commands(steps) == commands(wanted_steps)
+
+
+def test_what_decrypt_prints(rescue, loop, tmp_path):
+    """What the documents show, but for the sizes: LVM in a volume, and an ext4 file system in a logical volume."""
+    wanted = shown_in("RESCUE.md", "plain.img: ")
+    assert shown_in("README.md", "plain.img: ") == wanted
+    root = file_system(tmp_path / "fs", "ext4", 12 * MIB, "root")
+    encrypted(tmp_path / "laptop.img", physical_volume(tmp_path, loop, root, 0), "argon2id")
+    ended = rescue("decrypt", "laptop.img", "--key-file", "pass", "-o", "plain.img")
+    assert ended.status == 0, ended
+
+    def without_sizes(text):
+        return re.sub(r"[0-9.]+ [MG]iB|(?<=sizelimit=)\d+", "N", text.rstrip("\n"))
+
+    assert without_sizes(ended.output.decode()) == without_sizes(wanted)
+    mount = re.search(r"mount .*", wanted)[0]
+    assert all(re.search(r"^    (mount .*)$", document(name).read_text(), re.MULTILINE)[1] == mount
+               for name in ("README.md", "RESCUE.md"))
 
 
 DOCUMENTED = [line for name in ("README.md", "RESCUE.md") for line in re.findall(

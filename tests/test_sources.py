@@ -96,6 +96,12 @@ def test_number_of_the_interface(path):
     assert stated(path, INTERFACES[path]) == stated("Makefile", r"^INTERFACE := (.*)$")
 
 
+def test_readme_is_short():
+    """A person under stress reads it: 90 lines of 100 columns, 800 words."""
+    text = (TOP / "README.md").read_text()
+    assert (len(text.splitlines()) <= 90, max(map(len, text.splitlines())) <= 100, len(text.split()) <= 800) == (True,) * 3
+
+
 def test_links():
     number, broken = broken_links(TOP)
     assert number > 100
