@@ -102,6 +102,12 @@ def test_readme_is_short():
     assert (len(text.splitlines()) <= 90, max(map(len, text.splitlines())) <= 100, len(text.split()) <= 800) == (True,) * 3
 
 
+def test_example_in_rattle():
+    """LIBRARY.md has a function of crates/example_read."""
+    shown = re.search(r"^```rust\n(.*?)^```$", (TOP / "docs/LIBRARY.md").read_text(), re.MULTILINE | re.DOTALL)[1]
+    assert shown in (TOP / "crates/example_read/src/main.rt").read_text()
+
+
 def test_links():
     number, broken = broken_links(TOP)
     assert number > 100
