@@ -46,8 +46,7 @@ def encrypted(path, plain, kdf):
 
 
 def physical_volume(folder, loop, root, swap_length):
-    """A physical volume of LVM2 with a logical volume of swap space and one with this file system, in two pieces; or,
-    without swap space, in one piece."""
+    """A physical volume of LVM2 with a logical volume of swap space and one with this file system, in two pieces."""
     path = folder / "physical"
     path.touch()
     os.truncate(path, 4 * MIB + len(root) + swap_length)
@@ -60,12 +59,10 @@ def physical_volume(folder, loop, root, swap_length):
         command, *words = line.split()
         return must("lvm", command, "--driverloaded", "n", "--config", config, *words).decode()
 
-    more = 4 if swap_length else 0
-    lines = [f"pvcreate -q {device}", f"vgcreate -q -s 1M --setautoactivation n vg0 {device}",
-             f"lvcreate -q -an -Zn -Wn -n root -l {len(root) // MIB - more} vg0"]
-    if more:
-        lines += [f"lvcreate -q -an -Zn -Wn -n swap -l {swap_length // MIB} vg0", f"lvextend -q -l +{more} vg0/root"]
-    for line in lines:
+    first = len(root) // MIB - 4
+    for line in (f"pvcreate -q {device}", f"vgcreate -q -s 1M --setautoactivation n vg0 {device}",
+                 f"lvcreate -q -an -Zn -Wn -n root -l {first} vg0",
+                 f"lvcreate -q -an -Zn -Wn -n swap -l {swap_length // MIB} vg0", "lvextend -q -l +4 vg0/root"):
         lvm(line)
     start = int(lvm(f"pvs --noheadings --units b --nosuffix -o pe_start {device}"))
     content = bytearray(path.read_bytes())
@@ -291,12 +288,28 @@ def test_what_look_prints(rescue, tmp_path):
     assert commands(steps) == commands(wanted_steps)
 
 
+def one_logical_volume(folder, loop, content):
+    """A physical volume of LVM2 whose only logical volume has this content."""
+    path = folder / "physical"
+    path.touch()
+    os.truncate(path, len(content) + 4 * MIB)
+    device = loop(path)
+    config = f"""devices {{ filter = ["a|^{device}$|", "r|.*|"] use_devicesfile = 0 }} backup {{ backup = 0 archive = 0 }}
+        global {{ locking_dir = "{folder}" }} activation {{ udev_sync = 0 udev_rules = 0 }}"""
+    for line in (f"pvcreate -q {device}", f"vgcreate -q -s 1M --setautoactivation n vg0 {device}",
+                 f"lvcreate -q -an -Zn -Wn -n root -l {len(content) // MIB} vg0"):
+        command, *words = line.split()
+        must("lvm", command, "--driverloaded", "n", "--config", config, *words)
+    volumes.overwrite(path, MIB, content)
+    return path.read_bytes()
+
+
 def test_what_decrypt_prints(rescue, loop, tmp_path):
     """What the documents show, but for the sizes: LVM in a volume, and an ext4 file system in a logical volume."""
     wanted = shown_in("RESCUE.md", "plain.img: ")
     assert shown_in("README.md", "plain.img: ") == wanted
     root = file_system(tmp_path / "fs", "ext4", 12 * MIB, "root")
-    encrypted(tmp_path / "laptop.img", physical_volume(tmp_path, loop, root, 0), "argon2id")
+    encrypted(tmp_path / "laptop.img", one_logical_volume(tmp_path, loop, root), "argon2id")
     ended = rescue("decrypt", "laptop.img", "--key-file", "pass", "-o", "plain.img")
     assert ended.status == 0, ended
 

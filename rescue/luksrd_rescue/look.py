@@ -15,7 +15,7 @@ EXAMPLES = """examples:
   luksrd-rescue look laptop.img           what is in the image of a disk, and what to type next
   luksrd-rescue look /dev/sdb             the same of a disk, as root
   luksrd-rescue look --search disk.img    search all of it for headers, whatever its table says
-  luksrd-rescue look --json *.img | jq -r .volumes[].uuid"""
+  luksrd-rescue look --json *.img | jq -r '.volumes[]?.uuid'"""
 
 
 def register(subparsers) -> None:

@@ -63,9 +63,9 @@ def add_options(parser: argparse.ArgumentParser) -> None:
     group.add_argument("--cipher", choices=CIPHERS, help="with --volume-key-file, if the header is "
                        "lost; aes-xts-plain64 without it")
     group.add_argument("--payload-offset", metavar="BYTES", type=number,
-                       help="the same: where the payload begins, after the volume's first byte")
+                       help="with that key: where the payload begins, after the volume's first byte")
     group.add_argument("--sector-size", metavar="BYTES", type=int, choices=(512, 1024, 2048, 4096),
-                       help="the same: of the encryption, 512 without it")
+                       help="with that key: of the encryption, 512 without it")
 
 
 def _slot_number(word: str) -> int:
