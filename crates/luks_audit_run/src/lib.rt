@@ -1,7 +1,6 @@
 //! The runs of `luksrd-audit`, over images that a host opens and a sink.
 #![tactic(auto)]
 
-pub mod counted;
 pub mod host;
 pub mod image;
 pub mod run;

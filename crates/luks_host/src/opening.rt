@@ -1,23 +1,21 @@
 //! How inputs are opened: files by name, standard input by `-`.
 
 ghost use Rattle.std.specs.Prelude.{◌≡◌, ◌≢◌, codes};
-ghost use Rattle.luks_host.specs.Openings.{IsAccess, IsNamedInput, IsStandardInput};
+ghost use Rattle.luks_host.specs.Openings.{IsNamedInput, IsStandardInput, KnowsRefused};
 
-use crate::input::{Access, access_to};
+use crate::input::is_refused;
 use crate::is_output::is_output;
 use crate::storage::FileFacts;
 use crate::system::{InputFault, System};
 use std::alloc::{AllocError, Global};
 
-/// An input that is open, and how it is read.
+/// An input that is open.
 #[derive(Drop)]
 pub enum OpenedInput<F> {
-    /// Standard input, only as far as a run asks for it.
+    /// Standard input.
     Standard,
-    /// A regular file, through a buffer that reads ahead.
-    Buffered(F),
-    /// A pipe or a device, only as far as a run asks for it.
-    AsRequested(F),
+    /// A file, a pipe or a device with a name.
+    Named(F),
 }
 
 /// Opens the named file, or standard input for `-`. A directory is refused, and so is what standard
@@ -45,13 +43,13 @@ pub fn open_input<S: System>(
 fn open_standard<S: System>(system: &S, alloc: Global) -> Result<OpenedInput<S::File>, InputFault>
     ensures { IsStandardInput (S.finds system.now) (S.shows system.now) result }
 {
-    match system.facts_at("/proc/self/fd/0") {
-        Some(facts) => match access_of(system, alloc, &facts)? {
-            Access::Refused => Err(InputFault::NotOpened),
-            Access::Buffered | Access::AsRequested => Ok(OpenedInput::Standard),
-        },
-        None => Ok(OpenedInput::Standard),
+    let Some(facts) = system.facts_at("/proc/self/fd/0") else {
+        return Ok(OpenedInput::Standard);
+    };
+    if is_refused_input(system, alloc, &facts)? {
+        return Err(InputFault::NotOpened);
     }
+    Ok(OpenedInput::Standard)
 }
 
 /// Opens the file with this name.
@@ -65,17 +63,20 @@ fn open_file<S: System>(
 {
     let file = system.open(name)?;
     let facts = system.facts_of(&file)?;
-    match access_of(system, alloc, &facts)? {
-        Access::Refused => Err(InputFault::NotOpened),
-        Access::Buffered => Ok(OpenedInput::Buffered(file)),
-        Access::AsRequested => Ok(OpenedInput::AsRequested(file)),
+    if is_refused_input(system, alloc, &facts)? {
+        return Err(InputFault::NotOpened);
     }
+    Ok(OpenedInput::Named(file))
 }
 
-/// How the input with these facts is read.
-fn access_of<S: System>(system: &S, alloc: Global, facts: &FileFacts) -> Result<Access, AllocError>
-    ensures { IsAccess (S.finds system.now) (S.shows system.now) facts.now result }
+/// Whether the input with these facts is refused.
+fn is_refused_input<S: System>(
+    system: &S,
+    alloc: Global,
+    facts: &FileFacts,
+) -> Result<bool, AllocError>
+    ensures { KnowsRefused (S.finds system.now) (S.shows system.now) facts.now result }
 {
     let is_output = is_output(system, alloc, facts)?;
-    Ok(access_to(facts.kind, is_output))
+    Ok(is_refused(facts.kind, is_output))
 }

@@ -121,8 +121,8 @@ fn facts_in(file: &Metadata) -> FileFacts
     }
 }
 
-/// The fault for an error of opening a file, or of allocating its buffer.
-pub fn fault_of(e: io::Error) -> InputFault
+/// The fault for an error of opening a file.
+fn fault_of(e: io::Error) -> InputFault
     ensures memory { error_kind e ≡ ErrorKind.OutOfMemory → result ≡ InputFault.Memory }
     ensures other { error_kind e ≢ ErrorKind.OutOfMemory → result ≡ InputFault.NotOpened }
 {

@@ -22,7 +22,7 @@ use std::env;
 use std::io::{BufWriter, ErrorKind};
 use std::process::ExitCode;
 
-/// The capacity in bytes of the buffers for inputs and for the output.
+/// The capacity in bytes of the buffers for the image and for the output.
 const BUFFER: usize = 65536;
 
 fn main(rt: HostRuntime) -> ExitCode {

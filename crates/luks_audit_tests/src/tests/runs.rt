@@ -2,7 +2,6 @@
 
 use super::fixture::{COLUMNS, PLAIN, assert_of, header1, image2};
 use luks_audit::image::Policy;
-use luks_audit_run::counted::CountedSource;
 use luks_audit_run::host::{ImageFault, Images};
 use luks_audit_run::image::Scope;
 use luks_audit_run::run::run;
@@ -23,14 +22,14 @@ struct Table<'a> {
 impl<'a> Images for Table<'a> {
     ghost use Rattle.luks_audit_run.specs.Host.Stored.{unknown};
 
-    type Image = CountedSource<BrokenSource<'a>>;
+    type Image = BrokenSource<'a>;
 
     ghost stored = { λ _ _. unknown };
 
     ghost failures = { λ table. table.failures };
 
-    fn open(&mut self, name: &str) -> Result<CountedSource<BrokenSource<'a>>, ImageFault> {
-        let source = match name {
+    fn open(&mut self, name: &str) -> Result<BrokenSource<'a>, ImageFault> {
+        Ok(match name {
             "good" => BrokenSource::new(self.good, 592),
             "weak" => BrokenSource::new(self.weak, 592),
             "broken" => BrokenSource::new(self.good, 591),
@@ -39,12 +38,11 @@ impl<'a> Images for Table<'a> {
             "none" => BrokenSource::new(b"no header", 1000),
             "heavy" => return Err(ImageFault::Memory),
             _ => return Err(ImageFault::NotOpened),
-        };
-        Ok(CountedSource::new(source))
+        })
     }
 
-    fn close(&mut self, image: CountedSource<BrokenSource<'a>>) {
-        if image.has_failed() {
+    fn close(&mut self, image: BrokenSource<'a>) {
+        if image.counts.failures > 0 {
             self.failures = self.failures.saturating_add(1);
         }
     }

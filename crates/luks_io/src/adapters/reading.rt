@@ -86,6 +86,13 @@ impl<D: RawReader> ReadSource<D> {
             counts: ReadCounts::new(),
         }
     }
+
+    /// The counts of its reads.
+    pub fn counts(&self) -> ReadCounts
+        ensures { result ≡ self.now.counts }
+    {
+        self.counts
+    }
 }
 
 impl<D: RawReader> Source for ReadSource<D> {

@@ -124,8 +124,7 @@ fn listed(name: &'static str, kind: FileKind, number: u64, descriptor: RawFd) ->
 fn shown(opened: Result<OpenedInput<RawFd>, InputFault>) -> (&'static str, RawFd) {
     match opened {
         Ok(OpenedInput::Standard) => ("standard", 0),
-        Ok(OpenedInput::Buffered(file)) => ("buffered", file),
-        Ok(OpenedInput::AsRequested(file)) => ("as requested", file),
+        Ok(OpenedInput::Named(file)) => ("named", file),
         Err(InputFault::NotOpened) => ("not opened", 0),
         Err(InputFault::Memory) => ("memory", 0),
     }
@@ -153,9 +152,9 @@ fn inputs_are_opened_by_their_kind(rt: HostRuntime) {
     ];
     let expected = [
         ("-", "standard", 0),
-        ("volume", "buffered", 5),
-        ("pipe", "as requested", 6),
-        ("disk", "as requested", 7),
+        ("volume", "named", 5),
+        ("pipe", "named", 6),
+        ("disk", "named", 7),
         ("folder", "not opened", 0),
         ("heavy", "memory", 0),
         ("missing", "not opened", 0),
@@ -208,11 +207,11 @@ fn outputs_are_refused(rt: HostRuntime) {
     let expected = [
         ("-", "not opened", 0),
         ("volume", "not opened", 0),
-        ("other", "buffered", 6),
+        ("other", "named", 6),
         ("loop0", "not opened", 0),
-        ("loop1", "as requested", 8),
-        ("loop2", "as requested", 9),
-        ("loop3", "as requested", 10),
+        ("loop1", "named", 8),
+        ("loop2", "named", 9),
+        ("loop3", "named", 10),
     ];
     assert_opened(&rt, &rows, &expected);
     assert_outputs(&rt, &rows, &["-", "volume", "loop0"]);
@@ -248,7 +247,7 @@ fn loop_devices_are_not_missed_for_want_of_memory(rt: HostRuntime) {
     ];
     let expected = [
         ("volume", "not opened", 0),
-        ("other", "buffered", 6),
+        ("other", "named", 6),
         ("loop0", "memory", 0),
     ];
     assert_opened(&rt, &input, &expected);
