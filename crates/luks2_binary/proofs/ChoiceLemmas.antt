@@ -1,7 +1,7 @@
 -- The header of an image: which one is chosen, where it is, and how far the image is read for it.
-use Rattle.std.proofs.Common.{◌≡◌, ◌∙◌, ℕ, ◌+◌, ◌-◌, ◌*◌, ◌<◌, ◌≤◌, List, [], ◌∷◌, ◌++◌, Option, Some, None, Bool, true}
+use Rattle.std.proofs.Common.{◌≡◌, ◌∙◌, ℕ, ◌+◌, ◌-◌, ◌*◌, ◌≤◌, List, ◌++◌, Option, Some, None, Bool, true}
 use Rattle.std.proofs.Common.{false, ap, sym, refl, length, max, arith}
-use Rattle.std.specs.Prelude.{Ok, Err, nat_lt, ok_or, option_and_then}
+use Rattle.std.specs.Prelude.{Ok, nat_lt, ok_or, option_and_then}
 use Rattle.std.specs.List.{find}
 use Rattle.std.proofs.lemmas.Option.{option_and_then_some}
 use Rattle.luks_kdf.specs.declared.hash.Hash.{Hash}
@@ -20,8 +20,8 @@ use Rattle.luks2_binary.specs.declared.header.Header2.{Header2}
 use Rattle.luks2_binary.specs.declared.header.HeaderRole.{HeaderRole}
 use Rattle.luks2_binary.specs.declared.header.HeaderRole.TheVariants.{Primary, Secondary}
 use Rattle.luks2_binary.proofs.ValidLemmas.{at_more, found_passes, own_size, probe_fit}
-use Rattle.luks2_binary.proofs.ValidLemmas.{probe_least, probe_more, probe_unfit, search_len_is, short-fits}
-use Rattle.luks2_binary.proofs.ValidLemmas.{unfit-is_valid, valid_more, valid_parts, valid_range, walk_same}
+use Rattle.luks2_binary.proofs.ValidLemmas.{probe_least, probe_more, probe_unfit, search_len_is}
+use Rattle.luks2_binary.proofs.ValidLemmas.{valid_more, valid_parts, valid_range, walk_same}
 
 module _ (image : List ℕ) where
   -- the choice for an image with a valid primary header
@@ -68,20 +68,6 @@ module _ (image : List ℕ) where
     by : (b : Bool) → is_valid image 0 ≡ b → walk image offsets ≤ probe2_len image
     by true e = rw e (omega (arith, probe_first))
     by false e = omega (arith, walk_is e)
-
--- if no offset is valid, there is no first valid one
-none_first : (valid : ℕ → Bool) (offsets : List ℕ) → ((offset : ℕ) → valid offset ≡ false) → find valid offsets ≡ None
-none_first valid [] none = refl
-none_first valid (offset ∷ offsets) none = rw (none offset) (none_first valid offsets none)
-
--- an image of fewer than 4,096 bytes has no header
-pub none_short : (image : List ℕ) → length image < 4096 → header2_of image ≡ Err NotLuks
-unfolding header2_of
-none_short image short =
-    let none : (offset : ℕ) → is_valid image offset ≡ false =
-    λ offset. unfit-is_valid image offset (short-fits image offset (omega arith)) in
-    ap (λ chosen. ok_or chosen NotLuks)
-    (chosen_other image (none 0) ∙ ap (option_and_then (found_at image)) (none_first (is_valid image) sizes none))
 
 -- ---- loading the image step by step
 

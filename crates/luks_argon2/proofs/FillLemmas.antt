@@ -1,34 +1,13 @@
 -- Bounds of indices, and the order of the fill.
-use Rattle.std.proofs.Common.{◌≡◌, ℕ, zero, suc, ◌+◌, ◌*◌, ◌/◌, ◌^◌, ◌<◌, ◌≤◌, List, refl, arith}
-use Rattle.std.proofs.Common.{◌∙◌, add-one, mul_comm}
-use Rattle.std.proofs.lemmas.Nat.{mul-add-lt}
+use Rattle.std.proofs.Common.{◌≡◌, ℕ, zero, suc, ◌+◌, ◌≤◌, List, refl, arith}
+use Rattle.std.proofs.Common.{◌∙◌, add-one}
 use Rattle.std.proofs.lemmas.Bool.{cond-false, cond-true, cond_both, le-ltb, lt-ltb}
 use Rattle.std.specs.Prelude.{nat_lt}
-use Rattle.std.proofs.Math.Nat.{mul-le-mul_left, mul-le-mul_right}
 use Rattle.luks_argon2.specs.declared.layout.Layout.{Layout}
 use Rattle.luks_argon2.specs.declared.layout.Segment.{Segment}
 use Rattle.luks_argon2.specs.declared.variant.Variant.{Variant}
 use Rattle.luks_argon2.specs.Fill.{block_filled, first_filled, lanes_filled, passes_filled, segment_filled, slices_filled}
 use Rattle.luks_argon2.specs.Layout.{is_first_segment}
-
--- the part x / 2 ^ 32 of a number is below it
-pub part_below : (size x : ℕ) → 1 ≤ size → x < 2 ^ 32 → size * x / 2 ^ 32 < size
-part_below size x some below =
-    let all = mul-le-mul_left {m = x + 1} {n = 2 ^ 32} size (omega arith) in
-    omega (arith, all)
-
-pub square_below : (x : ℕ) → x < 2 ^ 32 → x * x / 2 ^ 32 < 2 ^ 32
-square_below x below =
-    let all = mul-le-mul_left {m = x} {n = 2 ^ 32} x (omega arith) in
-    omega (arith, all)
-
--- a block of a lane is in the memory
-pub block_inside : (lane len slice i lanes : ℕ) → lane < lanes → slice < 4 → i < len
-    → lane * (4 * len) + (slice * len + i) < lanes * (4 * len)
-block_inside lane len slice i lanes in_lanes in_slices in_segment =
-    let slices = mul-le-mul_right {m = slice} {n = 3} len (omega arith) in
-    let inside = mul-add-lt lane (4 * len) (slice * len + i) lanes in_lanes (omega (arith, slices)) in
-    omega (arith, inside, mul_comm (4 * len) lanes)
 
 -- before the first block of a segment that is filled nothing changes
 pub segment_start : (v : Variant) (s : Layout) (p : Segment) (m : List (List (List ℕ))) (n : ℕ) → n ≤ first_filled p

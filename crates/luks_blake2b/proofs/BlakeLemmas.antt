@@ -35,10 +35,6 @@ pub rounds_next : (m v : List ℕ) (n : ℕ)
 unfolding rounds
 rounds_next m v n = rw add-one refl
 
-pub rounds_none : (m v : List ℕ) → rounds m v 0 ≡ v
-unfolding rounds
-rounds_none m v = refl
-
 pub hash_after_next : (n : ℕ) (m : List ℕ) (k : ℕ)
     → hash_after n m (k + 1) ≡ compress (hash_after n m k) (le64_words_at m (128 * k)) (128 * (k + 1)) false
 unfolding hash_after

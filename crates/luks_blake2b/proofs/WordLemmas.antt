@@ -1,6 +1,6 @@
 -- Words and their bytes.
 use Rattle.std.proofs.Common.{◌≡◌, ℕ, ◌+◌, ◌*◌, ◌<◌, ◌≤◌, List, [], ◌∷◌, ◌++◌, length, take, drop, refl, arith}
-use Rattle.std.proofs.Common.{◌∙◌, ap, sym, append_assoc, length-append}
+use Rattle.std.proofs.Common.{◌∙◌, ap, sym, append_assoc}
 use Rattle.std.proofs.lemmas.List.{take_more}
 use Rattle.std.proofs.lemmas.Slice.{take-put_mid}
 use Rattle.std.specs.Prelude.{slice_index}
@@ -16,12 +16,6 @@ le64_bytes-append [] ys = refl
 le64_bytes-append (x ∷ xs) ys =
     ap (λ (l : List ℕ). to_le_bytes w64 x ++ l) (le64_bytes-append xs ys)
     ∙ sym (append_assoc (to_le_bytes w64 x) (le64_bytes xs) (le64_bytes ys))
-
-pub length-le64_bytes : (xs : List ℕ) → length (le64_bytes xs) ≡ 8 * length xs
-unfolding le64_bytes
-length-le64_bytes [] = refl
-length-le64_bytes (x ∷ xs) =
-    omega (arith, length-append (to_le_bytes w64 x) (le64_bytes xs), length-le64_bytes xs)
 
 -- one more word is written
 pub bytes_more : (out words ys : List ℕ) (i k : ℕ) → i < length words → take (8 * i) out ≡ le64_bytes (take i words)
@@ -40,12 +34,6 @@ take_prefix n xs ys h = rw (← h) (take-append_seam xs ys)
 
 pub drop_prefix : (n : ℕ) (xs ys : List ℕ) → length xs ≡ n → drop n (xs ++ ys) ≡ ys
 drop_prefix n xs ys h = rw (← h) (drop-append_seam xs ys)
-
--- four bytes, and others behind them
-pub framed : (k : ℕ) (a rest b : List ℕ) → length a ≡ 4 → take (4 + length b) (put_mid 4 k (a ++ rest) b) ≡ a ++ b
-framed k a rest b long =
-    take-put_mid 4 k (a ++ rest) b (4 + length b) refl (omega (arith, length-append a rest))
-    ∙ ap (λ (l : List ℕ). l ++ b) (take_prefix 4 a rest long)
 
 -- eight bytes behind 64
 pub joined_after : (a z b : List ℕ) → length a ≡ 64 → length z ≡ 8 → put_mid 64 8 (a ++ z) b ≡ a ++ b

@@ -1,15 +1,13 @@
 -- How the commands on volumes end after their volume was opened, and the counts of a run from those of its parts.
 use Rattle.std.proofs.Common.{◌≡◌, ℕ, ◌+◌, ◌*◌, ◌/◌, ◌<◌, ◌≤◌, List, Option, Some, ◌⊎◌, inl, inr, Bool, true, false}
-use Rattle.std.proofs.Common.{ap, refl, subst, sym, length, max, [], drop, length-drop, arith, ◌&&◌, Result, Ok, Err}
+use Rattle.std.proofs.Common.{ap, refl, subst, sym, length, max, [], drop, length-drop, arith, ◌&&◌}
 use Rattle.std.proofs.Common.{◌∙◌, ◌^◌}
 use Rattle.luks_cipher.specs.Sector.{Cipher}
 use Rattle.std.proofs.Math.Nat.{div-eq_of_lt-le, mul-le-mul_right}
-use Rattle.std.specs.Prelude.{MatchBool, IfOk}
+use Rattle.std.specs.Prelude.{MatchBool}
 use Rattle.luks_header.specs.Header.{header_of}
 use Rattle.luks_verdict.specs.declared.segment.Segment.{Segment}
 use Rattle.luks_io.specs.Devices.{Appended, ConsumedExactly, IfKnown}
-use Rattle.luks_key_slots.specs.Fault.{has_fault, is_read_failure}
-use Rattle.luks_key_slots.specs.declared.fault.VolumeFault.{VolumeFault}
 use Rattle.luks_key_slots.specs.declared.opening.Opened.{Opened}
 use Rattle.luks_payload.specs.Plain.{payload_end_of, sector_len, sector_start, sectors_of}
 use Rattle.luks_runs.proofs.PayloadLemmas.{plain_len}
@@ -19,7 +17,7 @@ use Rattle.luks_runs.specs.Run.{Consumed, Outcome, Prints, Aborted, AnyPromptnes
 use Rattle.luks_runs.specs.Run.{DetachedRunMatches, Promptness, RunEffects, RunMatches, aborts, is_run_read_failure}
 use Rattle.luks_runs.specs.Run.{is_run_write_failure}
 use Rattle.luks_runs.specs.Volume.{payload_outcome, slot_outcome, volume_outcome, volume_outcome_by}
-use Rattle.luks_runs.specs.Volume.{ConsumesLoaded, HitsMaterialEof, OpeningMessage}
+use Rattle.luks_runs.specs.Volume.{ConsumesLoaded, OpeningMessage}
 use Rattle.luks_request.specs.Request.{Request, VolumeRequest, luks_cat}
 use Rattle.luks_commands.specs.Headline.{CatAllows, Change, ConsumedAtLeast, ConsumedOfPayload, CountsCalls}
 use Rattle.luks_commands.specs.Headline.{CountsReads}
@@ -28,7 +26,6 @@ use Rattle.luks_commands.specs.Headline.{Trial}
 use Rattle.luks_commands.specs.Unlocking.{Unlocks}
 use Rattle.luks_runs.specs.Location.{reader_for, detached_header_of}
 use Rattle.luks_runs.specs.declared.location.HeaderLocation.{HeaderLocation}
-use Rattle.luks_runs.specs.declared.unlocked.UnlockedVolume.{UnlockedVolume}
 use Rattle.luks_runs.specs.declared.location.HeaderLocation.TheVariants.{Attached, Detached}
 use Rattle.luks_runs.specs.Payload.{ForwardsPayload, max_payload_end, with_payload_allowed}
 use Rattle.luks_runs.specs.RunMessages.{IsLuksMessage, PayloadMessage}
@@ -276,14 +273,6 @@ pub no_write_in_is_luks : (message : Message) {out : WriteCounts} → IsLuksMess
     → Writes (is_run_write_failure message) out out
 no_write_in_is_luks WriteFailed only = absurd only
 no_write_in_is_luks _ only = no_writes _
-
--- the key areas were read, or a read of them failed; if a key slot opened, the image did not end within them
-pub within_areas : (result : Result UnlockedVolume VolumeFault) (Same : Type 0) (ended : Bool)
-    (image image' : ReadCounts) → IfOk result (λ _. Same)
-    → Reads (has_fault is_read_failure result) ended image image' → HitsMaterialEof result ended
-    → IfOk result (λ _. Same × Reads false false image image')
-within_areas (Ok value) Same ended image image' same reads none = (same, rw none at reads)
-within_areas (Err fault) Same ended image image' same reads none = tt
 
 -- the volume was not opened, and nothing was written
 pub no_write_unopened : (message : Message) {out : WriteCounts} → OpeningMessage message

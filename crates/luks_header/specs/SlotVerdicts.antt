@@ -1,5 +1,5 @@
 -- The verdicts on the key slots of a header: whether each can be tried, and if not, why.
-use Rattle.std.specs.Prelude.{ℕ, Bool, true, false, List, Option, Some, None, option_map}
+use Rattle.std.specs.Prelude.{ℕ, Bool, true, false, List, Option, Some, option_map}
 use Rattle.luks_verdict.specs.Derivation.{without_argon2}
 use Rattle.luks_verdict.specs.Rule.{max_slots}
 use Rattle.luks_verdict.specs.Table.{ascending}
@@ -34,10 +34,6 @@ can_be_tried verdict = false
 unfoldable pub slot_within : Header → Limits → ℕ → Option Slot
 slot_within (V1 header) limits number = slot1_at header number
 slot_within (V2 header tree) limits number = slot2_at tree (bounds2_of header) limits number
-
--- the same without Argon2 and without a limit on iterations
-abbrev pub slot_at : Header → ℕ → Option Slot
-slot_at header number = slot_within header (without_argon2 None) number
 
 -- the verdict with the number of its key slot, if there is a verdict
 abbrev pub with_number : ℕ → Option Verdict → Option (ℕ × Verdict)

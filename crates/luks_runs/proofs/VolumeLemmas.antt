@@ -100,12 +100,6 @@ pub reads_on : (failed ended ended' : Bool) (a b c : ReadCounts) → Reads false
 reads_on failed true ended' a b c first kept next = (true, reads_after_end failed ended' a b c first (kept refl) next)
 reads_on failed false ended' a b c first kept next = (ended', reads_more failed ended' a b c first next)
 
--- if the further reads did not hit EOF, the run hit it if and only if the first reads did
-pub reads_within : (failed ended : Bool) (a b c : ReadCounts) → Reads false ended a b → (ended ≡ true → c ≡ b)
-    → Reads failed false b c → Reads failed ended a c
-reads_within failed true a b c first kept next = reads_after_end failed false a b c first (kept refl) next
-reads_within failed false a b c first kept next = reads_more failed false a b c first next
-
 -- ---- the header of an image
 
 -- the volume with this header, this segment and this order

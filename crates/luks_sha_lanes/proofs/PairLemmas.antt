@@ -66,12 +66,6 @@ rotated-rotated x k m le fits =
     ∙ rotated_bit x m ((i + k) % 64) (omega arith) fits (omega arith)
     ∙ ap (bit_at x) at ∙ sym (rotated_bit x (k + m) i le fits below))
 
-nested_two : (x k m : ℕ) → k + m ≤ 64 → x < 2 ^ 64
-    → rotated (bit_xor x (rotated x m)) k ≡ bit_xor (rotated x k) (rotated x (k + m))
-nested_two x k m le fits =
-    rotated-xor x (rotated x m) k (omega arith) fits (rotated_lt x m fits)
-    ∙ ap (bit_xor (rotated x k)) (rotated-rotated x k m le fits)
-
 -- three rotations of a word under XOR, each inside the one before
 pub nested_three : (x k l m : ℕ) → k + (l + m) ≤ 64 → x < 2 ^ 64
     → rotated (bit_xor x (rotated (bit_xor x (rotated x m)) l)) k
