@@ -11,6 +11,7 @@ pub fn times_x(b: u8) -> u8
 }
 
 /// x to the power `n`.
+#[tactic(auto, unfolding(crate::specs::Field::power_of_x))]
 pub fn power_of_x(n: usize) -> u8
     ensures { result ≡ power_of_x n }
 {

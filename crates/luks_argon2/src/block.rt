@@ -11,6 +11,7 @@ pub(crate) const ZERO_BLOCK: Block = [[0; 16]; 8];
 
 /// The XOR of two rows.
 #[inline(always)]
+#[tactic(auto, unfolding(crate::specs::Block::xor_rows))]
 pub(crate) fn xor_rows(x: [u64; 16], y: [u64; 16]) -> [u64; 16]
     ensures { result ≡ xor_rows x y }
 {

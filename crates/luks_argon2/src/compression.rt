@@ -10,6 +10,7 @@ use crate::permutation::permute;
 
 // Column `q` of the registers: two words of each row.
 #[inline(always)]
+#[tactic(auto, unfolding(crate::specs::Compression::column))]
 fn column(x: &Block, q: usize) -> [u64; 16]
     requires { q < 8 }
     ensures { result ≡ column x.now q }

@@ -50,6 +50,7 @@ fn fill_segment(variant: Variant, layout: Layout, segment: Segment, memory: &mut
     }
 }
 
+#[tactic(auto, unfolding(crate::specs::Fill::lanes_filled))]
 fn fill_slice(variant: Variant, layout: Layout, pass: u32, slice: usize, memory: &mut [Block])
     requires layout { IsLayout layout }
     requires slice { slice < 4 }
@@ -61,6 +62,7 @@ fn fill_slice(variant: Variant, layout: Layout, pass: u32, slice: usize, memory:
     }
 }
 
+#[tactic(auto, unfolding(crate::specs::Fill::slices_filled))]
 fn fill_pass(variant: Variant, layout: Layout, pass: u32, memory: &mut [Block])
     requires layout { IsLayout layout }
     requires size { length memory.old ≡ block_count layout }
@@ -72,6 +74,7 @@ fn fill_pass(variant: Variant, layout: Layout, pass: u32, memory: &mut [Block])
 }
 
 /// Fills the memory, whose first two columns are filled already.
+#[tactic(auto, unfolding(crate::specs::Fill::passes_filled))]
 pub(crate) fn fill(variant: Variant, layout: Layout, memory: &mut [Block])
     requires layout { IsLayout layout }
     requires size { length memory.old ≡ block_count layout }

@@ -101,6 +101,7 @@ fn first_block(h0: &[u8; 64], column: u32, lane: u32) -> Block
 }
 
 /// Writes the first two blocks of each lane (steps 3 and 4).
+#[tactic(auto, unfolding(crate::specs::Argon2::with_first_blocks))]
 pub(crate) fn write_first_blocks(h0: &[u8; 64], lanes: u32, lane_len: usize, memory: &mut [Block])
     requires lane_len { 2 ≤ lane_len }
     requires size { length memory.old ≡ lanes * lane_len }

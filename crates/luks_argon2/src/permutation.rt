@@ -90,6 +90,7 @@ fn columns(v: [u64x4; 4]) -> [u64x4; 4]
 
 // The diagonals as columns.
 #[inline(always)]
+#[tactic(auto, unfolding(crate::specs::Vectors::diagonals_as_columns, crate::specs::Vectors::vector_words))]
 fn diagonals_as_columns(v: [u64x4; 4]) -> [u64x4; 4]
     ensures { vector_words result ≡ diagonals_as_columns (vector_words v) }
 {
@@ -107,6 +108,7 @@ fn diagonals_as_columns(v: [u64x4; 4]) -> [u64x4; 4]
 
 // The columns as diagonals.
 #[inline(always)]
+#[tactic(auto, unfolding(crate::specs::Vectors::columns_as_diagonals, crate::specs::Vectors::vector_words))]
 fn columns_as_diagonals(v: [u64x4; 4]) -> [u64x4; 4]
     ensures { vector_words result ≡ columns_as_diagonals (vector_words v) }
 {
@@ -136,6 +138,7 @@ fn load(row: [u64; 16]) -> [u64x4; 4]
 }
 
 #[inline(always)]
+#[tactic(auto, unfolding(crate::specs::Vectors::vector_words))]
 fn store(v: [u64x4; 4]) -> [u64; 16]
     ensures { result ≡ vector_words v }
 {

@@ -18,6 +18,7 @@ use crate::wiping::wiped_after_tag;
 use luks_blake2b::{store_words, variable_length_hash};
 
 // C, the XOR of the last column (step 7).
+#[tactic(auto, unfolding(crate::specs::Argon2::last_column_xor))]
 fn last_column_xor(lanes: usize, lane_len: usize, memory: &[Block]) -> Block
     requires lanes { 1 ≤ lanes }
     requires lane_len { 1 ≤ lane_len }
@@ -32,6 +33,7 @@ fn last_column_xor(lanes: usize, lane_len: usize, memory: &[Block]) -> Block
 }
 
 // H' of a block (step 8).
+#[tactic(auto, unfolding(crate::specs::Argon2::rows_bytes))]
 fn hash_block(block: &Block, tag: &mut [u8])
     requires some { 1 ≤ length tag.old }
     requires capacity { length tag.old < 2 ^ 32 }

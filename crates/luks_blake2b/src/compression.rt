@@ -32,6 +32,7 @@ const SIGMA: [[usize; 16]; 10] = [
 ];
 
 #[inline(always)]
+#[tactic(auto, unfolding(crate::specs::Blake2b::word_added))]
 fn add(v: &mut [u64; 16], a: usize, b: usize)
     requires a { a < 16 }
     requires b { b < 16 }
@@ -41,6 +42,7 @@ fn add(v: &mut [u64; 16], a: usize, b: usize)
 }
 
 #[inline(always)]
+#[tactic(auto, unfolding(crate::specs::Blake2b::word_added_with))]
 fn add_with(v: &mut [u64; 16], a: usize, b: usize, x: u64)
     requires a { a < 16 }
     requires b { b < 16 }
@@ -50,6 +52,7 @@ fn add_with(v: &mut [u64; 16], a: usize, b: usize, x: u64)
 }
 
 #[inline(always)]
+#[tactic(auto, unfolding(crate::specs::Blake2b::word_xor_rotated))]
 fn xor_rotate(v: &mut [u64; 16], d: usize, a: usize, by: u32)
     requires d { d < 16 }
     requires a { a < 16 }

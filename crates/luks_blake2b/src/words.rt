@@ -4,6 +4,7 @@ ghost use Rattle.std.specs.Prelude.{◌≡◌, ◌+◌, ◌*◌, ◌≤◌, ◌<
 ghost use Rattle.luks_blake2b.specs.Words.{le64_bytes, le64_words_at, le64_at};
 
 // The word in the 8 bytes from byte `i` on.
+#[tactic(auto, unfolding(crate::specs::Words::le64_at))]
 fn load_word(bytes: &[u8], i: usize) -> u64
     requires { i + 8 ≤ length bytes.now }
     ensures { result ≡ le64_at bytes.now i }
@@ -46,6 +47,7 @@ pub fn load_words(bytes: &[u8], at: usize) -> [u64; 16]
 }
 
 /// Writes the words as bytes, eight for each.
+#[tactic(auto, unfolding(crate::specs::Words::le64_bytes))]
 pub fn store_words(words: &[u64], bytes: &mut [u8])
     requires { length bytes.old ≡ 8 * length words.now }
     ensures { bytes.new ≡ le64_bytes words.now }

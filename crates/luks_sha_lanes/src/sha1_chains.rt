@@ -129,6 +129,7 @@ fn lane_word<const N: usize>(x: Simd<u32, N>, j: usize) -> u32
 }
 
 // Writes the digest whose words are in lane `j`.
+#[tactic(auto, unfolding(sha2::specs::Sha256::digest_bytes))]
 fn store_lane<const N: usize>(x: &[Simd<u32, N>; 5], j: usize, out: &mut [u8])
     requires lane { j < N }
     requires capacity { length out.old ≡ 20 }

@@ -139,6 +139,7 @@ fn lane_word(x: u64x2, j: usize) -> u32
 }
 
 // Writes the digest whose words are in lane `j`.
+#[tactic(auto, unfolding(sha2::specs::Sha256::digest_bytes))]
 fn store(x: &[u64x2; 8], j: usize, out: &mut [u8])
     requires lane { j < 2 }
     requires capacity { length out.old ≡ 32 }

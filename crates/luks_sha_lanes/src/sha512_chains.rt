@@ -133,6 +133,7 @@ fn load_digest<const WORDS: usize>(digest: &[u8]) -> [u64; 8]
 }
 
 // Writes the digest that has the first `WORDS` words.
+#[tactic(auto, unfolding(sha2::specs::Sha512::digest_bytes))]
 fn store<const WORDS: usize>(x: &[u64; 8], out: &mut [u8])
     requires words { WORDS ≤ 8 }
     requires capacity { length out.old ≡ 8 * WORDS }

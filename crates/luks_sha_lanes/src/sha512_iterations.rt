@@ -66,6 +66,7 @@ fn after_digest<const WORDS: usize>(state: &[u64; 8], d: &[u64; 8]) -> [u64; 8]
 }
 
 #[inline(always)]
+#[tactic(auto, unfolding(crate::specs::Chains::xor_words))]
 fn xor_words(x: &[u64; 8], y: &[u64; 8]) -> [u64; 8]
     ensures { result ≡ xor_words 8 x.now y.now }
 {

@@ -1,10 +1,6 @@
-use Rattle.std.proofs.Common.{refl, add-one, ap, ◌∙◌}
+use Rattle.std.proofs.Common.{add-one, ap, ◌∙◌}
 use Rattle.luks_aes.specs.Field.{times_x, power_of_x}
 use Rattle.luks_aes.proofs.field.power_of_x.Goals as goal
-
-pub loop-init : goal.loop-init
-unfolding power_of_x
-loop-init c = refl
 
 pub loop-preserved : goal.loop-preserved
 unfolding power_of_x

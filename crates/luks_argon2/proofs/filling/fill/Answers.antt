@@ -1,11 +1,6 @@
-use Rattle.std.proofs.Common.{◌≡◌, ◌∙◌, arith, refl, sym}
-use Rattle.luks_argon2.specs.Fill.{passes_filled}
+use Rattle.std.proofs.Common.{◌≡◌, ◌∙◌, arith, sym}
 use Rattle.luks_argon2.proofs.FillLemmas.{passes_next}
 use Rattle.luks_argon2.proofs.filling.fill.Goals as goal
-
-pub passes-init : goal.passes-init
-unfolding passes_filled
-passes-init c = refl
 
 pub passes-preserved : goal.passes-preserved
 passes-preserved c =

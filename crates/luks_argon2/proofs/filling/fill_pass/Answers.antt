@@ -1,11 +1,6 @@
-use Rattle.std.proofs.Common.{◌≡◌, ◌∙◌, arith, refl, sym}
-use Rattle.luks_argon2.specs.Fill.{slices_filled}
+use Rattle.std.proofs.Common.{◌≡◌, ◌∙◌, arith, sym}
 use Rattle.luks_argon2.proofs.FillLemmas.{slices_next}
 use Rattle.luks_argon2.proofs.filling.fill_pass.Goals as goal
-
-pub slices-init : goal.slices-init
-unfolding slices_filled
-slices-init c = refl
 
 pub slices-preserved : goal.slices-preserved
 slices-preserved c =

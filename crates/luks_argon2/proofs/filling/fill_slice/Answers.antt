@@ -1,11 +1,6 @@
-use Rattle.std.proofs.Common.{◌≡◌, ◌∙◌, arith, refl, sym}
-use Rattle.luks_argon2.specs.Fill.{lanes_filled}
+use Rattle.std.proofs.Common.{◌≡◌, ◌∙◌, arith, sym}
 use Rattle.luks_argon2.proofs.FillLemmas.{lanes_next}
 use Rattle.luks_argon2.proofs.filling.fill_slice.Goals as goal
-
-pub lanes-init : goal.lanes-init
-unfolding lanes_filled
-lanes-init c = refl
 
 pub lanes-preserved : goal.lanes-preserved
 lanes-preserved c =

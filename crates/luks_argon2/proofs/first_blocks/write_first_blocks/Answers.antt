@@ -1,11 +1,6 @@
-use Rattle.std.proofs.Common.{◌≡◌, arith, refl, sym}
-use Rattle.luks_argon2.specs.Argon2.{with_first_blocks}
+use Rattle.std.proofs.Common.{◌≡◌, arith, sym}
 use Rattle.luks_argon2.proofs.TagLemmas.{first_blocks_next}
 use Rattle.luks_argon2.proofs.first_blocks.write_first_blocks.Goals as goal
-
-pub lanes-init : goal.lanes-init
-unfolding with_first_blocks
-lanes-init c = refl
 
 pub lanes-preserved : goal.lanes-preserved
 lanes-preserved c =

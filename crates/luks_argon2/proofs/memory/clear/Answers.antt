@@ -1,10 +1,7 @@
-use Rattle.std.proofs.Common.{◌≡◌, ◌∙◌, ◌∷◌, ◌++◌, [], List, ℕ, ap, arith, length, rules, sym}
+use Rattle.std.proofs.Common.{◌≡◌, ◌∙◌, ◌∷◌, ◌++◌, [], List, ℕ, ap, arith, length, sym}
 use Rattle.std.proofs.lemmas.List.{length-set, replicate-append-replicate, take_all, take_more_set}
 use Rattle.luks_argon2.specs.Block.{zero_block}
 use Rattle.luks_argon2.proofs.memory.clear.Goals as goal
-
-pub zeros-init : goal.zeros-init
-zeros-init c = search rules
 
 pub zeros-preserved : goal.zeros-preserved
 unfolding zero_block

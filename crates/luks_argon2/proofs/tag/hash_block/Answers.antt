@@ -1,14 +1,9 @@
 use Rattle.std.proofs.Common.{◌≡◌, ◌∙◌, ap, arith, length, length-drop, length-take, sym, rules}
 use Rattle.std.proofs.lemmas.List.{take_all}
 use Rattle.std.proofs.lemmas.Slice.{overwrites}
-use Rattle.luks_argon2.specs.Argon2.{rows_bytes}
 use Rattle.luks_blake2b.specs.VariableLength.{variable_length_hash}
 use Rattle.luks_argon2.proofs.TagLemmas.{rows_bytes_more}
 use Rattle.luks_argon2.proofs.tag.hash_block.Goals as goal
-
-pub rows-init : goal.rows-init
-unfolding rows_bytes
-rows-init c = search rules
 
 pub rows-preserved : goal.rows-preserved
 rows-preserved c = (

@@ -1,13 +1,8 @@
-use Rattle.std.proofs.Common.{◌≡◌, ◌+◌, ◌-◌, ◌*◌, ◌∙◌, List, [], ℕ, ap, arith, refl, sym}
+use Rattle.std.proofs.Common.{◌≡◌, ◌+◌, ◌-◌, ◌*◌, ◌∙◌, List, [], ℕ, ap, arith, sym}
 use Rattle.std.specs.Prelude.{slice_index_or}
-use Rattle.luks_argon2.specs.Argon2.{last_column_xor}
 use Rattle.luks_argon2.specs.Block.{xor_blocks}
 use Rattle.luks_argon2.proofs.TagLemmas.{last_next}
 use Rattle.luks_argon2.proofs.tag.last_column_xor.Goals as goal
-
-pub lanes-init : goal.lanes-init
-unfolding last_column_xor
-lanes-init c = refl
 
 pub lanes-preserved : goal.lanes-preserved
 lanes-preserved c =

@@ -5,10 +5,6 @@ use Rattle.luks_blake2b.specs.Words.{le64_bytes}
 use Rattle.luks_blake2b.proofs.WordLemmas.{bytes_more}
 use Rattle.luks_blake2b.proofs.words.store_words.Goals as goal
 
-pub words-init : goal.words-init
-unfolding le64_bytes
-words-init c = search rules
-
 pub words-preserved : goal.words-preserved
 words-preserved c = (
   search (rules, overwrites),

@@ -42,12 +42,6 @@ put_chain-requires-clause-whole c = omega (arith, length-take 512 c.args.pair.no
 pub put_chain-requires-clause-capacity : goal.put_chain-requires-clause-capacity
 put_chain-requires-clause-capacity c = omega (arith, length-take 512 c.args.pair.now, length-take 528 c.args.chains.now)
 
-pub put_chain-requires-2-clause-whole : goal.put_chain-requires-2-clause-whole
-put_chain-requires-2-clause-whole c = omega arith
-
-pub put_chain-requires-2-clause-capacity : goal.put_chain-requires-2-clause-capacity
-put_chain-requires-2-clause-capacity c = omega arith
-
 pub slice_bounds-decrypt_batch-end-2 : goal.slice_bounds-decrypt_batch-end-2
 slice_bounds-decrypt_batch-end-2 c = omega (arith, length-take {A = ℕ})
 

@@ -1,4 +1,4 @@
-use Rattle.std.proofs.Common.{rules, ◌≡◌, ◌-◌, ◌<◌, ◌∙◌, ap, sym, length, vec_len, arith}
+use Rattle.std.proofs.Common.{◌≡◌, ◌-◌, ◌<◌, ◌∙◌, ap, sym, length, vec_len, arith}
 use Rattle.std.proofs.lemmas.Grind.{common_steps}
 use Rattle.luks_header_area.proofs.AreaLemmas.{length-capacity, none_left, start_filled}
 use Rattle.luks_header_area.proofs.area.extend.Goals as goal
@@ -35,24 +35,3 @@ returns-in-Ok-clause-whole g c hits known knows =
     c.fill.auto.buf in
     let few : c.in-Ok.count < length c.fill.new.buf = grind (arith, hits, capacity, common_steps) in
     none_left known c.fill.new.buf _ c.in-Ok.count (c.in-Ok.ensures.bytes known knows) (c.in-Ok.ensures.end known knows) few
-
-pub returns-in-Ok-clause-loads : goal.returns-in-Ok-clause-loads
-returns-in-Ok-clause-loads g c = record {
-  whole = grind (arith, common_steps);
-  fewer = search rules;
-  within = grind (arith, common_steps);
-  kept = grind (arith, common_steps);
-  only = search rules;
-}
-
-pub returns-in-Ok-clause-reads : goal.returns-in-Ok-clause-reads
-returns-in-Ok-clause-reads g c = grind (arith, common_steps)
-
-pub returns-in-Err-clause-loads : goal.returns-in-Err-clause-loads
-returns-in-Err-clause-loads g c = record {
-  whole = search rules;
-  fewer = grind (arith, common_steps);
-  within = grind (arith, common_steps);
-  kept = grind (arith, common_steps);
-  only = search rules;
-}

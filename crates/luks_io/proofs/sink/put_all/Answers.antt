@@ -15,15 +15,6 @@ loop-at-preserved g c = record {
   writes = search rules;
 }
 
-pub returns-in-Err-clause-ok : goal.returns-in-Err-clause-ok
-returns-in-Err-clause-ok g c = search rules
-
-pub returns-in-Err-clause-err : goal.returns-in-Err-clause-err
-returns-in-Err-clause-err g c = search rules
-
 pub returns-clause-ok : goal.returns-clause-ok
 returns-clause-ok g c =
     appended-all _ _ c.args.bytes.now c.loop-at.at c.loop-at-test.false c.loop-at.invariant.written
-
-pub returns-clause-err : goal.returns-clause-err
-returns-clause-err g c = search rules

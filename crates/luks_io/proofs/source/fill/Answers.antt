@@ -1,5 +1,4 @@
-use Rattle.std.proofs.Common.{arith, rules}
-use Rattle.std.proofs.lemmas.Grind.{common_steps}
+use Rattle.std.proofs.Common.{rules}
 use Rattle.luks_io.proofs.EffectLemmas.{Consumes-next, consumed-prefix, consumed-kept, consumed-nothing, consumed-whole}
 use Rattle.luks_io.proofs.source.fill.Goals as goal
 
@@ -11,29 +10,21 @@ loop-at-preserved g c = record {
   reads = search rules;
 }
 
-pub returns-in-Ok-eq0 : goal.returns-in-Ok-eq0
-returns-in-Ok-eq0 g c = record {
-  bound = search rules;
-  bytes = consumed-nothing _ _ _ c.loop-at.buf c.read.new.buf c.loop-at.at c.in-Ok-eq0.field-0 c.in-Ok-eq0.field-0-test
-      c.loop-at.invariant.within c.loop-at.invariant.consumed c.in-Ok-eq0.ensures.bytes.0;
-  end = search rules;
-  reads = first_of (search rules, grind (arith, common_steps));
-}
+pub returns-in-Ok-eq0-clause-bytes : goal.returns-in-Ok-eq0-clause-bytes
+returns-in-Ok-eq0-clause-bytes g c =
+    consumed-nothing _ _ _ c.loop-at.buf c.read.new.buf c.loop-at.at c.in-Ok-eq0.field-0 c.in-Ok-eq0.field-0-test
+    c.loop-at.invariant.within c.loop-at.invariant.consumed c.in-Ok-eq0.ensures.bytes.0
 
-pub returns-in-Err : goal.returns-in-Err
-returns-in-Err g c = record {
-  bound = search rules;
-  bytes = consumed-kept _ _ _ c.loop-at.buf c.read.new.buf c.loop-at.at c.loop-at.invariant.within
-      c.loop-at.invariant.consumed c.in-Err.ensures.bytes;
-  end = search rules;
-  reads = first_of (search rules, grind (arith, common_steps));
-}
+pub returns-in-Err-clause-bytes : goal.returns-in-Err-clause-bytes
+returns-in-Err-clause-bytes g c =
+    consumed-kept _ _ _ c.loop-at.buf c.read.new.buf c.loop-at.at c.loop-at.invariant.within
+    c.loop-at.invariant.consumed c.in-Err.ensures.bytes
 
-pub returns : goal.returns
-returns g c = record {
-  bound = search rules;
-  bytes = consumed-prefix _ _ c.loop-at.buf c.loop-at.at c.loop-at.invariant.within c.loop-at.invariant.consumed;
-  end = consumed-whole _ _ c.loop-at.buf c.loop-at.at c.loop-at.invariant.within c.loop-at-test.false
-      c.loop-at.invariant.consumed;
-  reads = first_of (search rules, grind (arith, common_steps));
-}
+pub returns-clause-bytes : goal.returns-clause-bytes
+returns-clause-bytes g c =
+    consumed-prefix _ _ c.loop-at.buf c.loop-at.at c.loop-at.invariant.within c.loop-at.invariant.consumed
+
+pub returns-clause-end : goal.returns-clause-end
+returns-clause-end g c =
+    consumed-whole _ _ c.loop-at.buf c.loop-at.at c.loop-at.invariant.within c.loop-at-test.false
+    c.loop-at.invariant.consumed

@@ -1,15 +1,10 @@
-use Rattle.std.proofs.Common.{rules, ◌≡◌, ◌∙◌, sym, ap, arith}
+use Rattle.std.proofs.Common.{◌≡◌, ◌∙◌, sym, ap, arith}
 use Rattle.std.specs.Int.{to_be_bytes, w32}
 use Rattle.std.proofs.lemmas.List.{take_all}
-use Rattle.sha2.specs.Sha256.{digest_bytes}
 use Rattle.sha2.proofs.Absorbing256.{digest_more}
 use Rattle.luks_sha_lanes.specs.Lanes.{lane}
 use Rattle.luks_sha_lanes.proofs.LaneLemmas.{word_of_lane}
 use Rattle.luks_sha_lanes.proofs.sha256_chains.store.Goals as goal
-
-pub words-init : goal.words-init
-unfolding digest_bytes
-words-init c = search rules
 
 pub words-preserved : goal.words-preserved
 words-preserved c =

@@ -1,12 +1,7 @@
-use Rattle.std.proofs.Common.{rules, ◌≡◌, ◌∙◌, ◌*◌, sym, arith}
+use Rattle.std.proofs.Common.{◌≡◌, ◌∙◌, ◌*◌, sym, arith}
 use Rattle.std.proofs.lemmas.List.{take_all}
-use Rattle.sha2.specs.Sha512.{digest_bytes}
 use Rattle.sha2.proofs.Absorbing512.{digest_more}
 use Rattle.luks_sha_lanes.proofs.sha512_chains.store.Goals as goal
-
-pub words-init : goal.words-init
-unfolding digest_bytes
-words-init g c = search rules
 
 pub words-preserved : goal.words-preserved
 words-preserved g c =

@@ -4,14 +4,10 @@ use Rattle.luks_io.specs.declared.adapters.CallOutcome.TheVariants.{Failed, Move
 use Rattle.luks_io.proofs.Reporting.{reports_again, reports_from, reports_last}
 use Rattle.luks_io.proofs.adapters.reading.read_patiently.Goals as goal
 
-pub returns-in-Moved : goal.returns-in-Moved
-returns-in-Moved g c = record {
-  reported = c.tries.invariant.reported _ _
-      (reports_from read_result _ _ _ _ c.tries.tries (Moved c.in-Moved.count) (λ rest left. (refl, left))
-      c.in-Moved.ensures.next);
-  bound = search rules;
-  bytes = search rules;
-}
+pub returns-in-Moved-clause-reported : goal.returns-in-Moved-clause-reported
+returns-in-Moved-clause-reported g c = c.tries.invariant.reported _ _
+    (reports_from read_result _ _ _ _ c.tries.tries (Moved c.in-Moved.count) (λ rest left. (refl, left))
+    c.in-Moved.ensures.next)
 
 pub tries-preserved : goal.tries-preserved
 tries-preserved g c = record {
@@ -25,13 +21,6 @@ returns-in-Interrupted-2-clause-reported g c =
     c.tries.invariant.reported _ _ (reports_last read_result _ _ c.tries.tries (omega arith)
     c.in-Interrupted.ensures.next)
 
-pub returns-in-Failed : goal.returns-in-Failed
-returns-in-Failed g c = record {
-  reported = c.tries.invariant.reported _ _
-      (reports_from read_result _ _ _ _ c.tries.tries Failed (λ rest left. (refl, left)) c.in-Failed.ensures.next);
-  bound = search rules;
-  bytes = search rules;
-}
-
-pub tries-init : goal.tries-init
-tries-init g c = search rules
+pub returns-in-Failed-clause-reported : goal.returns-in-Failed-clause-reported
+returns-in-Failed-clause-reported g c = c.tries.invariant.reported _ _
+    (reports_from read_result _ _ _ _ c.tries.tries Failed (λ rest left. (refl, left)) c.in-Failed.ensures.next)

@@ -36,22 +36,3 @@ returns-in-Moved-clause-reported g c some =
     c.tries.invariant.reported _ _
     (reports_from write_result _ _ _ _ c.tries.tries (Moved c.in-Moved.count) (λ rest left. (sym moved, left))
     c.in-Moved.ensures.next)
-
-pub tries-init : goal.tries-init
-tries-init g c = search rules
-
-pub returns-then-is_empty : goal.returns-then-is_empty
-returns-then-is_empty g c =
-    record { reported = search rules; empty = search rules; bound = search rules; bytes = search rules }
-
-pub returns-in-Moved-clause-bound : goal.returns-in-Moved-clause-bound
-returns-in-Moved-clause-bound g c = search rules
-
-pub returns-in-Moved-clause-bytes : goal.returns-in-Moved-clause-bytes
-returns-in-Moved-clause-bytes g c = search rules
-
-pub returns-in-Moved-eq0-clause-bound : goal.returns-in-Moved-eq0-clause-bound
-returns-in-Moved-eq0-clause-bound g c = search rules
-
-pub returns-in-Moved-eq0-clause-bytes : goal.returns-in-Moved-eq0-clause-bytes
-returns-in-Moved-eq0-clause-bytes g c = search rules
