@@ -1,4 +1,4 @@
--- The findings in a header, one a line, in a fixed order.
+-- The findings in a header, in a fixed order, and the line of each.
 use Rattle.std.specs.Prelude.{ℕ, ◌∷◌, ◌++◌, [], Bool, false, true, List, Option, Some, None, Result, Ok, Err, codes}
 use Rattle.std.specs.Prelude.{flat_map, if◌then◌else◌, max, min, nat_lt}
 use Rattle.std.specs.Fmt.{decimal}
@@ -19,33 +19,28 @@ use Rattle.luks_verdict.specs.declared.slot.Verdict.TheVariants.{Usable, Skipped
 use Rattle.luks2_binary.specs.declared.header.PairFinding.{PairFinding}
 use Rattle.luks2_binary.specs.declared.header.PairFinding.TheVariants.{PrimaryNotValid, SecondaryNotValid}
 use Rattle.luks2_binary.specs.declared.header.PairFinding.TheVariants.{SequencesDiffer}
-use Rattle.luks_report.specs.DumpLine.{field}
+use Rattle.luks_report.specs.declared.findings.Finding.{Finding}
+use Rattle.luks_report.specs.declared.findings.Finding.TheVariants as F
 
--- the line of the finding about the two headers of LUKS2, compared with each other
-abbrev pub pair_finding_line : Option PairFinding → List ℕ
-pair_finding_line None = []
-pair_finding_line (Some PrimaryNotValid) = field (codes "primary header") (codes "not valid")
-pair_finding_line (Some SecondaryNotValid) = field (codes "secondary header") (codes "not valid")
-pair_finding_line (Some SequencesDiffer) = field (codes "headers") (codes "sequence numbers differ")
+-- ---- which findings there are
 
--- this finding in a header. LUKS1 has one header
-abbrev pub pair_finding : Header → List ℕ
-pair_finding (V1 header) = []
-pair_finding (V2 header tree) = pair_finding_line header.finding
+-- about the two headers of LUKS2, compared with each other. LUKS1 has one header
+abbrev pub pair_finding : Option PairFinding → List Finding
+pair_finding None = []
+pair_finding (Some finding) = F.Pair finding ∷ []
 
--- the finding about the names of key slots: one is out of range
-abbrev pub name_finding : Header → List ℕ
-name_finding header =
-    if has_name_out_of_range header then field (codes "keyslots") (codes "name out of range") else []
+abbrev pub pair_findings : Header → List Finding
+pair_findings (V1 header) = []
+pair_findings (V2 header tree) = pair_finding header.finding
 
--- the findings in the header itself
-unfoldable pub header_findings : Header → List ℕ
-header_findings header = pair_finding header ++ name_finding header
+-- about the names of key slots: one is out of range
+abbrev pub name_findings : Header → List Finding
+name_findings header = if has_name_out_of_range header then F.NameOutOfRange ∷ [] else []
 
--- the finding about the segment: its fault
-abbrev pub segment_finding : Result Segment SegmentFault → List ℕ
-segment_finding (Ok segment) = []
-segment_finding (Err fault) = field (codes "segment") (fault_text fault)
+-- about the segment: its fault
+abbrev pub segment_findings : Result Segment SegmentFault → List Finding
+segment_findings (Ok segment) = []
+segment_findings (Err fault) = F.Segment fault ∷ []
 
 -- whether a skipped key slot is a finding. A slot that uses Argon2 is not: luksrd cannot open it, and does not check
 -- the rest of it
@@ -54,34 +49,49 @@ is_finding Argon2i = false
 is_finding Argon2id = false
 is_finding _ = true
 
--- the finding about the skipped key slot with this number
-abbrev pub skip_finding : ℕ → SkipReason → List ℕ
-skip_finding number reason =
-    if is_finding reason then field (codes "slot " ++ decimal number) (reason_text reason) else []
-
-abbrev pub slot_finding : ℕ × Verdict → List ℕ
-slot_finding (number, Skipped reason) = skip_finding number reason
-slot_finding _ = []
+-- about the key slot with this number: why it is skipped
+abbrev pub slot_findings : ℕ × Verdict → List Finding
+slot_findings (number, Skipped reason) = if is_finding reason then F.Slot number reason ∷ [] else []
+slot_findings _ = []
 
 -- two areas of key material share a byte: the later of their starts is below the earlier of their ends
 unfoldable pub do_overlap : Slot → Slot → Bool
 do_overlap a b =
     nat_lt (max a.parts.area_offset b.parts.area_offset) (min (material_end a.parts) (material_end b.parts))
 
--- the finding about two key slots: both can be tried, and their areas overlap
-abbrev pub overlap : ℕ × Verdict → ℕ × Verdict → List ℕ
-overlap (i, Usable a) (j, Usable b) =
-    if do_overlap a b then field (codes "slots " ++ decimal i ++ codes " and " ++ decimal j) (codes "areas overlap")
-    else []
+-- about two key slots: both can be tried, and their areas overlap
+abbrev pub overlap : ℕ × Verdict → ℕ × Verdict → List Finding
+overlap (i, Usable a) (j, Usable b) = if do_overlap a b then F.Overlap i j ∷ [] else []
 overlap _ _ = []
 
--- the findings about each two of these key slots, ordered by the first slot and then by the second
-unfoldable pub overlaps : List (ℕ × Verdict) → List ℕ
+-- about each two of these key slots, ordered by the first slot and then by the second
+unfoldable pub overlaps : List (ℕ × Verdict) → List Finding
 overlaps [] = []
 overlaps (first ∷ rest) = flat_map (overlap first) rest ++ overlaps rest
 
 -- all findings in a header. The number of iterations has no limit here
-unfoldable pub findings_of : Header → List ℕ
-findings_of header = header_findings header ++ segment_finding (segment_of header)
-    ++ flat_map slot_finding (verdicts_of header None)
+unfoldable pub finding_list : Header → List Finding
+finding_list header = pair_findings header ++ name_findings header ++ segment_findings (segment_of header)
+    ++ flat_map slot_findings (verdicts_of header None)
     ++ overlaps (verdicts_of header None)
+
+-- ---- how they are printed
+
+abbrev pub pair_text : PairFinding → List ℕ
+pair_text PrimaryNotValid = codes "primary header: not valid"
+pair_text SecondaryNotValid = codes "secondary header: not valid"
+pair_text SequencesDiffer = codes "headers: sequence numbers differ"
+
+abbrev pub finding_text : Finding → List ℕ
+finding_text (F.Pair finding) = pair_text finding
+finding_text F.NameOutOfRange = codes "keyslots: name out of range"
+finding_text (F.Segment fault) = codes "segment: " ++ fault_text fault
+finding_text (F.Slot number reason) = codes "slot " ++ decimal number ++ codes ": " ++ reason_text reason
+finding_text (F.Overlap i j) = codes "slots " ++ decimal i ++ codes " and " ++ decimal j ++ codes ": areas overlap"
+
+-- each finding on a line of its own
+abbrev pub finding_line : Finding → List ℕ
+finding_line finding = finding_text finding ++ 10 ∷ []
+
+unfoldable pub findings_of : Header → List ℕ
+findings_of header = flat_map finding_line (finding_list header)
