@@ -1,8 +1,10 @@
 pub mod Audit
-pub mod Audit1
-pub mod Audit2
-pub mod Findings
+pub mod Cipher
 pub mod Image
 pub mod Line
+pub mod Rows1
+pub mod Rows2
+pub mod Table
 pub mod Tree
+pub mod Verdict
 pub mod Weakness

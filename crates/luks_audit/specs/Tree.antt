@@ -1,6 +1,5 @@
 -- Trees of JSON values, built member by member. Names of members are unique, and an object has them in ascending order.
 use Rattle.std.specs.Prelude.{ℕ, List, [], ◌∷◌, Option, if◌then◌else◌, option_map, unwrap_or}
-use Rattle.hex.specs.Hex.{encode_lower}
 use Rattle.serde_json.specs.Data.{Data, null, number, string, unsigned, array, object, no_members, put}
 use Rattle.serde_json.specs.View.{items_of}
 use Rattle.serde_json.specs.Written.{has_float}
@@ -28,13 +27,6 @@ optional_num n = unwrap_or (option_map num n) null
 
 abbrev pub optional_text : Option (List ℕ) → Data
 optional_text text = unwrap_or (option_map string text) null
-
--- bytes as hexadecimal digits in lower case, two for each; those bytes if there are any, and otherwise null
-abbrev pub hex_text : List ℕ → Data
-hex_text bytes = string (encode_lower bytes)
-
-abbrev pub optional_hex : Option (List ℕ) → Data
-optional_hex bytes = unwrap_or (option_map hex_text bytes) null
 
 -- a value as it is stored, or null if it has a float: a float has more than one text
 unfoldable pub unless_float : Data → Data

@@ -1,13 +1,14 @@
--- What is weak, judged by numbers that headers of both formats have. A number that a header lacks counts as 0.
+-- What is weak, judged by fields that headers of both formats have. A number that a header lacks counts as 0.
 use Rattle.std.specs.Prelude.{ℕ, ◌&&◌, ◌||◌, ◌++◌, Bool, true, false, List, [], ◌∷◌, Option, Some, None, bytes_eq}
-use Rattle.std.specs.Prelude.{◌==◌, codes, if◌then◌else◌, nat_le, nat_lt, slice_get, take}
+use Rattle.std.specs.Prelude.{codes, decimal, flat_map, if◌then◌else◌, nat_le, nat_lt, option_and_then, option_map}
+use Rattle.std.specs.Prelude.{unwrap_or}
+use Rattle.luks_kdf.specs.Hash.{hash_named}
 use Rattle.luks_kdf.specs.declared.hash.Hash.{Hash}
 use Rattle.luks_kdf.specs.declared.hash.Hash.TheVariants.{Sha1, Sha224, Sha256, Sha384, Sha512}
 use Rattle.luks_audit.specs.Tree.{empty_object, with_fields}
-use Rattle.luks_audit.specs.declared.weakness.Derivation.{Derivation}
-use Rattle.luks_audit.specs.declared.weakness.Derivation.TheVariants.{Pbkdf2, Argon2}
-use Rattle.luks_audit.specs.declared.weakness.DigestStrength.{DigestStrength}
-use Rattle.luks_audit.specs.declared.weakness.SlotStrength.{SlotStrength}
+use Rattle.luks_audit.specs.declared.rows.DigestRow.{DigestRow}
+use Rattle.luks_audit.specs.declared.rows.PayloadRow.{PayloadRow}
+use Rattle.luks_audit.specs.declared.rows.SlotRow.{SlotRow}
 use Rattle.luks_audit.specs.declared.weakness.Weakness.{Weakness}
 use Rattle.luks_audit.specs.declared.weakness.Weakness.TheVariants.{FewIterations, BrokenHash, CbcMode, ShortKey}
 use Rattle.luks_audit.specs.declared.weakness.Weakness.TheVariants.{LittleMemory, FewDigestIterations}
@@ -46,44 +47,33 @@ least_digest_iterations = 1000
 
 -- ---- the tests
 
--- a mode of dm-crypt is cipher block chaining
-unfoldable pub is_cbc : List ℕ → Bool
-is_cbc mode = bytes_eq (take 3 mode) (codes "cbc")
+-- the text is there, and is the expected one
+abbrev pub is_named : List ℕ → Option (List ℕ) → Bool
+is_named expected text = unwrap_or (option_map (bytes_eq expected) text) false
 
--- the bytes that separate the words of a cipher in the notation of the kernel's crypto API: `(`, `)`, `,`, `-` and `:`
-abbrev pub is_mark : ℕ → Bool
-is_mark byte = byte == 40 || byte == 41 || byte == 44 || byte == 45 || byte == 58
-
--- the first word of a text is `cbc`: a mark follows it, or nothing does
-abbrev pub ends_word : Option ℕ → Bool
-ends_word None = true
-ends_word (Some byte) = is_mark byte
-
-unfoldable pub begins_cbc : List ℕ → Bool
-begins_cbc text = bytes_eq (take 3 text) (codes "cbc") && ends_word (slice_get text 3)
-
--- a word after a mark is `cbc`
-unfoldable pub has_word_cbc : List ℕ → Bool
-has_word_cbc [] = false
-has_word_cbc (byte ∷ rest) = (is_mark byte && begins_cbc rest) || has_word_cbc rest
-
--- a cipher in that notation, which begins with `capi:`, has cipher block chaining among its templates:
--- `capi:cbc(aes)-essiv:sha256` and `capi:authenc(hmac(sha256),cbc(aes))-random` do
-unfoldable pub is_capi_cbc : List ℕ → Bool
-is_capi_cbc cipher = bytes_eq (take 5 cipher) (codes "capi:") && has_word_cbc cipher
+-- the hash function that a text names, if it is known
+abbrev pub hash_in : Option (List ℕ) → Option Hash
+hash_in text = option_and_then hash_named text
 
 -- the hash function is SHA-1
 abbrev pub is_sha1 : Option Hash → Bool
 is_sha1 (Some Sha1) = true
 is_sha1 _ = false
 
-abbrev pub is_by_pbkdf2 : Derivation → Bool
-is_by_pbkdf2 Pbkdf2 = true
-is_by_pbkdf2 _ = false
+-- PBKDF2 has fewer iterations than the least number
+abbrev pub has_few_iterations : Option ℕ → SlotRow → Bool
+has_few_iterations minimum slot = is_named (codes "pbkdf2") slot.kdf
+    && nat_lt (unwrap_or slot.iterations 0) (least_iterations minimum (hash_in slot.hash))
 
-abbrev pub is_by_argon2 : Derivation → Bool
-is_by_argon2 Argon2 = true
-is_by_argon2 _ = false
+-- Argon2i or Argon2id has less memory than the least
+abbrev pub has_little_memory : SlotRow → Bool
+has_little_memory slot = (is_named (codes "argon2i") slot.kdf || is_named (codes "argon2id") slot.kdf)
+    && nat_lt (unwrap_or slot.memory 0) least_memory
+
+-- the volume key, or that of the key material, is short
+abbrev pub has_short_key : SlotRow → Bool
+has_short_key slot = nat_le (unwrap_or slot.key_bytes 0) short_key_len
+    || nat_le (unwrap_or slot.area_key_bytes 0) short_key_len
 
 -- ---- weaknesses
 
@@ -96,6 +86,10 @@ weakness_name ShortKey = codes "short-key"
 weakness_name LittleMemory = codes "argon2-memory"
 weakness_name FewDigestIterations = codes "digest-iterations"
 
+-- a part of a header with its number
+abbrev pub place_of : List ℕ → ℕ → List ℕ
+place_of part number = part ++ codes " " ++ decimal number
+
 -- a weakness of this part of the header
 unfoldable pub weakness_of : List ℕ → Weakness → Data
 weakness_of place weakness = with_fields (
@@ -107,24 +101,39 @@ weakness_of place weakness = with_fields (
 unfoldable pub found_if : Bool → List ℕ → Weakness → List Data
 found_if holds place weakness = if holds then weakness_of place weakness ∷ [] else []
 
--- the weaknesses of a key slot
-unfoldable pub slot_weaknesses : Option ℕ → List ℕ → SlotStrength → List Data
-slot_weaknesses minimum place slot =
-    found_if (is_by_pbkdf2 slot.derivation && nat_lt slot.iterations (least_iterations minimum slot.kdf_hash)) place
-    FewIterations
-    ++ found_if (is_sha1 slot.kdf_hash || is_sha1 slot.af_hash) place BrokenHash
+-- the weaknesses of a key slot, if it holds a key
+unfoldable pub key_weaknesses : Option ℕ → List ℕ → SlotRow → List Data
+key_weaknesses minimum place slot =
+    found_if (has_few_iterations minimum slot) place FewIterations
+    ++ found_if (is_sha1 (hash_in slot.hash) || is_sha1 (hash_in slot.af_hash)) place BrokenHash
     ++ found_if slot.is_cbc place CbcMode
-    ++ found_if (nat_le slot.key_bytes short_key_len || nat_le slot.area_key_bytes short_key_len) place ShortKey
-    ++ found_if (is_by_argon2 slot.derivation && nat_lt slot.memory least_memory) place LittleMemory
+    ++ found_if (has_short_key slot) place ShortKey
+    ++ found_if (has_little_memory slot) place LittleMemory
+
+unfoldable pub slot_weaknesses : Option ℕ → SlotRow → List Data
+slot_weaknesses minimum slot =
+    if slot.holds_key then key_weaknesses minimum (place_of (codes "slot") slot.number) slot else []
 
 -- the weaknesses of a digest
-unfoldable pub digest_weaknesses : List ℕ → DigestStrength → List Data
-digest_weaknesses place digest =
-    found_if (is_sha1 digest.hash) place BrokenHash
-    ++ found_if (nat_lt digest.iterations least_digest_iterations) place FewDigestIterations
+unfoldable pub digest_weaknesses : DigestRow → List Data
+digest_weaknesses digest =
+    found_if (is_sha1 (hash_in digest.hash)) (place_of (codes "digest") digest.number) BrokenHash
+    ++ found_if (nat_lt (unwrap_or digest.iterations 0) least_digest_iterations)
+    (place_of (codes "digest") digest.number) FewDigestIterations
 
--- the weaknesses of the segment: of its mode, and of the volume key, if its length is known
-unfoldable pub segment_weaknesses : Bool → Option ℕ → List Data
-segment_weaknesses cbc None = found_if cbc (codes "segment") CbcMode
-segment_weaknesses cbc (Some key_bytes) =
-    found_if cbc (codes "segment") CbcMode ++ found_if (nat_le key_bytes short_key_len) (codes "segment") ShortKey
+-- the volume key is short, if its length is known
+abbrev pub is_short : Option ℕ → Bool
+is_short None = false
+is_short (Some bytes) = nat_le bytes short_key_len
+
+-- the weaknesses of the segment: of its mode, and of the volume key
+unfoldable pub segment_weaknesses : PayloadRow → List Data
+segment_weaknesses row =
+    found_if row.is_cbc (codes "segment") CbcMode ++ found_if (is_short row.key_bytes) (codes "segment") ShortKey
+
+-- everything that is weak, with this minimum of iterations, or OWASP's
+unfoldable pub weak_list : Option ℕ → PayloadRow → List SlotRow → List DigestRow → List Data
+weak_list minimum payload slots digests =
+    segment_weaknesses payload
+    ++ flat_map (slot_weaknesses minimum) slots
+    ++ flat_map digest_weaknesses digests

@@ -1,20 +1,26 @@
 //! A header as one JSON object, and whether anything about it is wrong or weak.
 
-ghost use Rattle.std.specs.Prelude.{◌≡◌, ◌&&◌, ◌==◌, ◌++◌, IfOk, OnOk, length};
-ghost use Rattle.luks_audit.specs.Audit.{audit_of, by_number, digest1_value, digest2_value};
-ghost use Rattle.luks_audit.specs.Audit.{digest_values, judged_fields, list_fields, numbered};
-ghost use Rattle.luks_audit.specs.Audit.{place_fields, token_value, token_values, with_volume};
-ghost use Rattle.luks_audit.specs.Tree.{empty_object, with_fields};
+ghost use Rattle.std.specs.Prelude.{◌≡◌, ◌&&◌, ◌==◌, ◌++◌, IfOk, OnOk, length, map};
+ghost use Rattle.luks_audit.specs.Audit.{audit_of, by_number, digest_rows, digest_list};
+ghost use Rattle.luks_audit.specs.Audit.{finding_values, header_row, payload_row, slot_row};
+ghost use Rattle.luks_audit.specs.Audit.{slot_rows, slot_list, token_values};
+ghost use Rattle.luks_report.specs.Findings.{finding_list, finding_text};
 ghost use Rattle.luks_verdict.specs.Rule.{max_slots};
-ghost use Rattle.serde_json.specs.View.{view as data_of};
+ghost use Rattle.serde_json.specs.Data.{string};
 
-use crate::finding::finding_array;
-use crate::slots::slot_array;
+use crate::rows::{DigestRow, HeaderRow, PayloadRow, SlotRow};
+use crate::table::{
+    push_binary, push_judged, push_lists, push_payload, push_place, push_volume, token_tree,
+};
 use crate::tree::{Array, Object, Tree};
-use crate::weak_array::weak_array;
+use crate::weakness::weak_array;
 use crate::{luks1, luks2};
-use luks_header::header::{Header, Header1};
+use luks_header::derivation::Limits;
+use luks_header::header::Header;
+use luks_header::slot::verdict_kind;
+use luks_report::findings::{Finding, finding_list};
 use luks_verdict::rule::MAX_SLOTS;
+use luks_verdict::slot::VerdictKind;
 use luks2_json::numbered::object_numbered;
 use serde_json::Value;
 use std::alloc::{AllocError, Global};
@@ -28,65 +34,112 @@ pub struct Audit {
     pub is_clean: bool,
 }
 
-// ---- digests and tokens
+// ---- the fields of a header
 
-// An object with a number alone.
-fn numbered(alloc: Global, number: u8) -> Result<Object, AllocError>
-    ensures { IfOk result (λ fields. fields ≡ numbered number) }
+// The binary header.
+#[tactic(auto, unfolding(crate::specs::Audit::header_row))]
+fn header_row(alloc: Global, header: &Header) -> Result<HeaderRow, AllocError>
+    ensures { IfOk result (λ row. row ≡ header_row header.now) }
 {
-    let mut fields = Object::new(alloc);
-    fields.push_number(alloc, "number", u64::from(number))?;
-    Ok(fields)
+    match header {
+        Header::V1(header) => luks1::header_row(alloc, header),
+        Header::V2(header, _) => luks2::header_row(alloc, header),
+    }
 }
 
-// The digest of LUKS1.
-#[tactic(auto, unfolding(crate::specs::Audit::digest1_value))]
-fn digest1_tree(alloc: Global, header: &Header1) -> Result<Tree, AllocError>
-    ensures { IfOk result (λ tree. tree ≡ digest1_value header.now) }
+// The payload.
+#[tactic(auto, unfolding(crate::specs::Audit::payload_row))]
+fn payload_row(alloc: Global, header: &Header) -> Result<PayloadRow, AllocError>
+    ensures { IfOk result (λ row. row ≡ payload_row header.now) }
 {
-    let mut fields = numbered(alloc, 0)?;
-    luks1::push_digest(alloc, &mut fields, header)?;
-    Ok(fields.into_tree())
+    match header {
+        Header::V1(header) => luks1::payload_row(alloc, header),
+        Header::V2(_, metadata) => luks2::payload_row(alloc, metadata.tree()),
+    }
 }
 
-// A digest of LUKS2.
-#[tactic(auto, unfolding(crate::specs::Audit::digest2_value))]
-fn digest2_tree(alloc: Global, number: u8, digest: &Value) -> Result<Tree, AllocError>
-    ensures { IfOk result (λ tree. tree ≡ digest2_value number (data_of digest.now)) }
-{
-    let mut fields = numbered(alloc, number)?;
-    luks2::digest::push_digest(alloc, &mut fields, digest)?;
-    Ok(fields.into_tree())
-}
-
-// A token.
-#[tactic(auto, unfolding(crate::specs::Audit::token_value))]
-fn token_tree(alloc: Global, number: u8, token: &Value) -> Result<Tree, AllocError>
-    ensures { IfOk result (λ tree. tree ≡ token_value number (data_of token.now)) }
-{
-    let mut fields = numbered(alloc, number)?;
-    luks2::digest::push_token(alloc, &mut fields, token)?;
-    Ok(fields.into_tree())
-}
-
-// Adds the digest of this number, if the header has it.
-#[tactic(auto, unfolding(crate::specs::Audit::digest_values))]
-fn push_digest(
+// The key slot of this number, if the header has it, with this verdict.
+#[tactic(auto, unfolding(crate::specs::Audit::slot_row))]
+fn slot_row(
     alloc: Global,
-    digests: &mut Array,
+    header: &Header,
+    number: u8,
+    kind: VerdictKind,
+) -> Result<Option<SlotRow>, AllocError>
+    ensures { IfOk result (λ row. row ≡ slot_row header.now number kind) }
+{
+    match header {
+        Header::V1(header) => match header.slots.get(usize::from(number)) {
+            Some(slot) => Ok(Some(luks1::slot_row(alloc, header, slot, number, kind)?)),
+            None => Ok(None),
+        },
+        Header::V2(_, metadata) => match object_numbered(metadata.tree(), "keyslots", number) {
+            Some(slot) => Ok(Some(luks2::slot_row(alloc, slot, number, kind)?)),
+            None => Ok(None),
+        },
+    }
+}
+
+// Adds the key slot of this number, if the header has it.
+#[tactic(auto, unfolding(crate::specs::Audit::slot_rows))]
+fn push_slot(
+    alloc: Global,
+    rows: &mut Vec<SlotRow>,
     header: &Header,
     number: u8,
 ) -> Result<(), AllocError>
-    ensures { OnOk result (digests.new ≡ digests.old ++ digest_values header.now number) }
+    ensures { OnOk result (rows.new.items ≡ rows.old.items ++ slot_rows header.now number) }
+{
+    let limits = Limits::without_argon2(None);
+    let Some(kind) = verdict_kind(header, limits, number) else {
+        return Ok(());
+    };
+    match slot_row(alloc, header, number, kind)? {
+        Some(row) => Ok(rows.push(row)?),
+        None => Ok(()),
+    }
+}
+
+// The key slots by ascending number.
+fn slots(alloc: Global, header: &Header) -> Result<Vec<SlotRow>, AllocError>
+    ensures { IfOk result (λ rows. rows.items ≡ slot_list header.now) }
+{
+    let mut rows = Vec::new(alloc);
+    for number in 0..MAX_SLOTS {
+        push_slot(alloc, &mut rows, header, number)?;
+    }
+    Ok(rows)
+}
+
+// Adds the digest of this number, if the header has it.
+#[tactic(auto, unfolding(crate::specs::Audit::digest_rows))]
+fn push_digest(
+    alloc: Global,
+    rows: &mut Vec<DigestRow>,
+    header: &Header,
+    number: u8,
+) -> Result<(), AllocError>
+    ensures { OnOk result (rows.new.items ≡ rows.old.items ++ digest_rows header.now number) }
 {
     match header {
-        Header::V1(header) if number == 0 => digests.push(digest1_tree(alloc, header)?),
+        Header::V1(header) if number == 0 => Ok(rows.push(luks1::digest_row(alloc, header)?)?),
         Header::V1(_) => Ok(()),
         Header::V2(_, metadata) => match object_numbered(metadata.tree(), "digests", number) {
-            Some(digest) => digests.push(digest2_tree(alloc, number, digest)?),
+            Some(digest) => Ok(rows.push(luks2::digest_row(alloc, digest, number)?)?),
             None => Ok(()),
         },
     }
+}
+
+// The digests by ascending number.
+fn digests(alloc: Global, header: &Header) -> Result<Vec<DigestRow>, AllocError>
+    ensures { IfOk result (λ rows. rows.items ≡ digest_list header.now) }
+{
+    let mut rows = Vec::new(alloc);
+    for number in 0..MAX_SLOTS {
+        push_digest(alloc, &mut rows, header, number)?;
+    }
+    Ok(rows)
 }
 
 // Adds the token of this number, if the header has it.
@@ -108,17 +161,6 @@ fn push_token(
     }
 }
 
-// The digests by ascending number.
-fn digest_array(alloc: Global, header: &Header) -> Result<Array, AllocError>
-    ensures { IfOk result (λ digests. digests ≡ by_number (digest_values header.now) max_slots) }
-{
-    let mut digests = Array::new(alloc);
-    for number in 0..MAX_SLOTS {
-        push_digest(alloc, &mut digests, header, number)?;
-    }
-    Ok(digests)
-}
-
 // The tokens by ascending number.
 fn token_array(alloc: Global, header: &Header) -> Result<Array, AllocError>
     ensures { IfOk result (λ tokens. tokens ≡ by_number (token_values header.now) max_slots) }
@@ -132,82 +174,25 @@ fn token_array(alloc: Global, header: &Header) -> Result<Array, AllocError>
 
 // ---- the whole header
 
-// Adds where the header was found.
-#[tactic(auto, unfolding(crate::specs::Audit::place_fields))]
-fn push_place(alloc: Global, fields: &mut Object, file: &str, offset: u64) -> Result<(), AllocError>
-    ensures { OnOk result (fields.new ≡ with_fields (place_fields file.now offset) fields.old) }
+// A finding as a text.
+fn finding_tree(alloc: Global, finding: Finding) -> Result<Tree, AllocError>
+    ensures { IfOk result (λ tree. tree ≡ string (finding_text finding)) }
 {
-    fields.push_text(alloc, "file", file)?;
-    fields.push_number(alloc, "offset", offset)
+    let mut text = String::new(alloc);
+    finding.push_to(&mut text)?;
+    Ok(Tree::text(text))
 }
 
-// Adds the members on the header and its payload.
-#[tactic(auto, unfolding(crate::specs::Audit::with_volume))]
-fn push_volume(alloc: Global, fields: &mut Object, header: &Header) -> Result<(), AllocError>
-    ensures { OnOk result (fields.new ≡ with_volume header.now fields.old) }
+// The findings, each a text.
+fn finding_array(alloc: Global, header: &Header) -> Result<Array, AllocError>
+    ensures { IfOk result (λ findings. findings ≡ finding_values header.now) }
 {
-    match header {
-        Header::V1(header) => {
-            luks1::push_volume(alloc, fields, header)?;
-            luks1::push_binary(alloc, fields)?;
-            luks1::push_encryption(alloc, fields, header)?;
-            luks1::push_segment(alloc, fields, header)
-        }
-        Header::V2(binary, metadata) => {
-            luks2::binary::push_volume(alloc, fields, binary)?;
-            luks2::binary::push_binary(alloc, fields, binary)?;
-            luks2::payload::push_encryption(alloc, fields, metadata.tree())?;
-            luks2::payload::push_segment(alloc, fields, metadata.tree())
-        }
+    let found = finding_list(alloc, header)?;
+    let mut findings = Array::new(alloc);
+    for finding in &found {
+        findings.push(finding_tree(alloc, *finding)?)?;
     }
-}
-
-// Adds the key slots, the digests and the tokens.
-#[tactic(auto, unfolding(crate::specs::Audit::list_fields))]
-fn push_lists(alloc: Global, fields: &mut Object, header: &Header) -> Result<(), AllocError>
-    ensures { OnOk result (fields.new ≡ with_fields (list_fields header.now) fields.old) }
-{
-    let slots = slot_array(alloc, header)?;
-    fields.push_array(alloc, "slots", slots)?;
-    let digests = digest_array(alloc, header)?;
-    fields.push_array(alloc, "digests", digests)?;
-    let tokens = token_array(alloc, header)?;
-    fields.push_array(alloc, "tokens", tokens)
-}
-
-// Adds what is wrong and what is weak.
-#[tactic(auto, unfolding(crate::specs::Audit::judged_fields))]
-fn push_judged(
-    alloc: Global,
-    fields: &mut Object,
-    findings: Array,
-    weak: Array,
-) -> Result<(), AllocError>
-    ensures { OnOk result (fields.new ≡ with_fields (judged_fields findings weak) fields.old) }
-{
-    fields.push_array(alloc, "findings", findings)?;
-    fields.push_array(alloc, "weak", weak)
-}
-
-// The object of a header with these findings and weaknesses.
-fn header_tree(
-    alloc: Global,
-    file: &str,
-    offset: u64,
-    header: &Header,
-    findings: Array,
-    weak: Array,
-) -> Result<Tree, AllocError>
-    ensures { IfOk result (λ tree. tree ≡ with_fields (judged_fields findings weak)
-        (with_fields (list_fields header.now)
-        (with_volume header.now (with_fields (place_fields file.now offset) empty_object)))) }
-{
-    let mut fields = Object::new(alloc);
-    push_place(alloc, &mut fields, file, offset)?;
-    push_volume(alloc, &mut fields, header)?;
-    push_lists(alloc, &mut fields, header)?;
-    push_judged(alloc, &mut fields, findings, weak)?;
-    Ok(fields.into_tree())
+    Ok(findings)
 }
 
 // Whether there are neither findings nor weaknesses.
@@ -223,7 +208,7 @@ fn are_empty(findings: &Array, weak: &Array) -> bool
 /// # Errors
 ///
 /// `AllocError` if memory runs out.
-#[tactic(auto, unfolding(crate::specs::Audit::audit_value, crate::specs::Audit::is_clean))]
+#[tactic(auto, unfolding(crate::specs::Audit::audit_value, crate::specs::Audit::is_clean, crate::specs::Audit::with_volume, crate::specs::Audit::with_lists))]
 pub fn audit_header(
     alloc: Global,
     minimum: Option<u32>,
@@ -233,9 +218,33 @@ pub fn audit_header(
 ) -> Result<Audit, AllocError>
     ensures { IfOk result (λ audit. audit ≡ audit_of minimum file.now offset header.now) }
 {
+    let volume = header_row(alloc, header)?;
+    let payload = payload_row(alloc, header)?;
+    let slots = slots(alloc, header)?;
+    let digests = digests(alloc, header)?;
+    let tokens = token_array(alloc, header)?;
     let findings = finding_array(alloc, header)?;
-    let weak = weak_array(alloc, minimum, header)?;
+    let weak = weak_array(
+        alloc,
+        minimum,
+        &payload,
+        slots.as_slice(),
+        digests.as_slice(),
+    )?;
     let is_clean = are_empty(&findings, &weak);
-    let tree = header_tree(alloc, file, offset, header, findings, weak)?;
+    let mut fields = Object::new(alloc);
+    push_place(alloc, &mut fields, file, offset)?;
+    push_volume(alloc, &mut fields, &volume)?;
+    push_binary(alloc, &mut fields, &volume)?;
+    push_payload(alloc, &mut fields, &payload)?;
+    push_lists(
+        alloc,
+        &mut fields,
+        slots.as_slice(),
+        digests.as_slice(),
+        tokens,
+    )?;
+    push_judged(alloc, &mut fields, findings, weak)?;
+    let tree = fields.into_tree();
     Ok(Audit { tree, is_clean })
 }

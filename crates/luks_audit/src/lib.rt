@@ -1,19 +1,21 @@
 //! What is in a LUKS header, and what is weak about it, as JSON.
 //!
-//! [`audit_header`](audit::audit_header) lists the fields, the key slots, the digests and the
-//! tokens of a header with its findings and its weaknesses, as the definitions in `specs/` say.
+//! A header of either format becomes the same [`rows`], which say what each field is;
+//! [`audit_header`](audit::audit_header) lists them with the header's findings and weaknesses.
 //! [`audit_image`](image::audit_image) reads an image's header and returns the line about it.
 #![tactic(auto)]
 
 pub mod audit;
-mod fields;
-mod finding;
+mod cipher;
 mod float;
 pub mod image;
 pub mod line;
 mod luks1;
 mod luks2;
-mod slots;
+mod members;
+pub mod rows;
+mod table;
+pub mod text;
 pub mod tree;
-mod weak_array;
+mod verdict;
 pub mod weakness;

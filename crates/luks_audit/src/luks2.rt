@@ -1,8 +1,326 @@
-//! What is listed of a LUKS2 header (LUKS2 On-Disk Format Specification 1.1, sections 2.1 and 3).
+//! The fields of a LUKS2 header (LUKS2 On-Disk Format Specification 1.1, sections 2.1 and 3).
 
-pub(crate) mod binary;
-pub(crate) mod digest;
-pub(crate) mod member;
-pub(crate) mod payload;
-pub(crate) mod slot;
-pub(crate) mod strength;
+ghost use Rattle.std.specs.Prelude.{◌≡◌, ◌<◌, ◌==◌, IfOk, IfSome, List, codes, length};
+ghost use Rattle.std.specs.Prelude.{option_map, position, ℕ};
+ghost use Rattle.hex.specs.Hex.{encode_lower};
+ghost use Rattle.luks_audit.specs.Rows2.{digest2_row, header2_row, in_segment0, key_size_at};
+ghost use Rattle.luks_audit.specs.Rows2.{key_size_in, length_in, mode_after_dash, names_cbc};
+ghost use Rattle.luks_audit.specs.Rows2.{other_header_of, payload2_row, priority2_of};
+ghost use Rattle.luks_audit.specs.Rows2.{requirements_of, slot2_row, volume_key_size};
+ghost use Rattle.luks_report.specs.Dump2.{role_text};
+ghost use Rattle.luks2_json.specs.Member.{base64_member, decimal_member, in_member};
+ghost use Rattle.luks2_json.specs.Member.{integer_member, string_member};
+ghost use Rattle.serde_json.specs.Find.{get};
+ghost use Rattle.serde_json.specs.View.{view as data_of};
+
+use crate::cipher::{is_capi_cbc, is_cbc};
+use crate::rows::{DigestRow, HeaderRow, Length, PayloadRow, SlotRow};
+use crate::text::Text;
+use crate::verdict::{is_kind_usable, kind_text, reason_text};
+use luks_header::header::{Header2, HeaderRole, PairFinding};
+use luks_verdict::rule::MAX_SLOTS;
+use luks_verdict::slot::VerdictKind;
+use luks2_json::list::{Names, strings_at};
+use luks2_json::member::{
+    base64_len, base64_member, decimal_member, integer_member, is_type, nested_decimal,
+    nested_integer, nested_string, string_is, string_member,
+};
+use luks2_json::numbered::object_numbered;
+use serde_json::Value;
+use std::alloc::{AllocError, Global};
+
+// ---- the binary header
+
+// Which of the two headers it is.
+fn role_text(role: HeaderRole) -> &'static str
+    ensures { result.now ≡ role_text role }
+{
+    match role {
+        HeaderRole::Primary => "primary",
+        HeaderRole::Secondary => "secondary",
+    }
+}
+
+// What is wrong with the header that is not the listed one.
+fn other_header(finding: Option<PairFinding>) -> Option<&'static str>
+    ensures { option_map (λ t. t.now) result ≡ other_header_of finding }
+{
+    match finding {
+        None => None,
+        Some(PairFinding::PrimaryNotValid) => Some("not valid"),
+        Some(PairFinding::SecondaryNotValid) => Some("not valid"),
+        Some(PairFinding::SequencesDiffer) => Some("sequence number differs"),
+    }
+}
+
+/// The binary header.
+#[tactic(auto, unfolding(crate::specs::Rows2::header2_row))]
+pub(crate) fn header_row(alloc: Global, header: &Header2) -> Result<HeaderRow, AllocError>
+    ensures { IfOk result (λ row. row ≡ header2_row header.now) }
+{
+    Ok(HeaderRow {
+        version: 2,
+        uuid: Text::escaped(alloc, header.uuid.as_bytes())?,
+        label: Some(Text::escaped(alloc, header.label.as_bytes())?),
+        subsystem: Some(Text::escaped(alloc, header.subsystem.as_bytes())?),
+        header: Some(Text::copied(alloc, role_text(header.role))?),
+        other_header: Text::optional(alloc, other_header(header.finding))?,
+        seqid: Some(header.sequence),
+        header_size: Some(u64::from(header.size)),
+        checksum_hash: Some(Text::copied(alloc, header.hash.name())?),
+        salt: Some(Text::digits(alloc, &header.salt)?),
+    })
+}
+
+// ---- the payload: segment 0, whether or not there are others
+
+// The length of the volume key, by a slot of type luks2.
+fn key_size_in(slot: &Value) -> Option<u64>
+    ensures { result ≡ key_size_in (data_of slot.now) }
+{
+    if is_type(slot, "luks2") {
+        integer_member(slot, "key_size")
+    } else {
+        None
+    }
+}
+
+// The length of the volume key, by the slot of this number.
+fn key_size_at(tree: &Value, number: u8) -> Option<u64>
+    ensures { result ≡ key_size_at (data_of tree.now) number }
+{
+    key_size_in(object_numbered(tree, "keyslots", number)?)
+}
+
+// The length of the volume key in bytes, by the lowest-numbered slot that has one.
+fn volume_key_size(tree: &Value) -> Option<u64>
+    ensures { result ≡ volume_key_size (data_of tree.now) }
+{
+    for number in 0..MAX_SLOTS {
+        let found = key_size_at(tree, number);
+        if found.is_some() {
+            return found;
+        }
+    }
+    None
+}
+
+// The length of a segment.
+#[tactic(auto, unfolding(crate::specs::Rows2::length_in))]
+fn length_in(segment: &Value) -> Option<Length>
+    ensures { result ≡ length_in (data_of segment.now) }
+{
+    if string_is(segment, "size", "dynamic") {
+        return Some(Length::Dynamic);
+    }
+    match decimal_member(segment, "size") {
+        Some(bytes) => Some(Length::Fixed(bytes)),
+        None => None,
+    }
+}
+
+// The length of segment 0.
+fn segment_size(tree: &Value) -> Option<Length>
+    ensures { result ≡ in_segment0 length_in (data_of tree.now) }
+{
+    length_in(object_numbered(tree, "segments", 0)?)
+}
+
+// The string under this name in segment 0.
+fn segment_string<'v>(tree: &'v Value, name: &str) -> Option<&'v str>
+    ensures { option_map (λ t. t.now) result
+        ≡ in_segment0 (string_member name.now) (data_of tree.now) }
+{
+    string_member(object_numbered(tree, "segments", 0)?, name)
+}
+
+// The integer under this name in segment 0.
+fn segment_integer(tree: &Value, name: &str) -> Option<u64>
+    ensures { result ≡ in_segment0 (integer_member name.now) (data_of tree.now) }
+{
+    integer_member(object_numbered(tree, "segments", 0)?, name)
+}
+
+// The number in decimal digits under this name in segment 0.
+fn segment_decimal(tree: &Value, name: &str) -> Option<u64>
+    ensures { result ≡ in_segment0 (decimal_member name.now) (data_of tree.now) }
+{
+    decimal_member(object_numbered(tree, "segments", 0)?, name)
+}
+
+// The requirements of the configuration.
+fn config_requirements(tree: &Value) -> Option<&Value>
+    ensures { option_map (λ value. data_of value.now) result
+        ≡ in_member (codes "config") (get (codes "requirements"))
+        (data_of tree.now) }
+{
+    tree.get("config")?.get("requirements")
+}
+
+// The names of mandatory requirements.
+fn requirements(alloc: Global, tree: &Value) -> Result<Option<Names>, AllocError>
+    ensures { IfOk result (λ names. names ≡ requirements_of (data_of tree.now)) }
+{
+    match config_requirements(tree) {
+        Some(requirements) => Ok(Some(strings_at(alloc, requirements, "mandatory")?)),
+        None => Ok(None),
+    }
+}
+
+// The index of the first dash.
+fn dash_in(cipher: &[u8]) -> Option<usize>
+    ensures value { result ≡ position (λ (byte : ℕ). byte == 45) cipher.now }
+    ensures bound { IfSome result (λ dash. dash < length cipher.now) }
+{
+    cipher.iter().position(|byte| *byte == b'-')
+}
+
+// The mode in a cipher's name: what follows the first dash.
+fn mode_after_dash(cipher: &[u8]) -> &[u8]
+    ensures { result.now ≡ mode_after_dash cipher.now }
+{
+    match dash_in(cipher) {
+        Some(dash) => &cipher[dash + 1..],
+        None => &[],
+    }
+}
+
+// Whether a cipher is named that uses cipher block chaining.
+fn names_cbc(cipher: Option<&str>) -> bool
+    ensures { result ≡ names_cbc (option_map (λ t. t.now) cipher.entry) }
+{
+    match cipher {
+        Some(name) => is_cbc(mode_after_dash(name.as_bytes())) || is_capi_cbc(name.as_bytes()),
+        None => false,
+    }
+}
+
+/// The payload.
+#[tactic(auto, unfolding(crate::specs::Rows2::payload2_row))]
+pub(crate) fn payload_row(alloc: Global, tree: &Value) -> Result<PayloadRow, AllocError>
+    ensures { IfOk result (λ row. row ≡ payload2_row (data_of tree.now)) }
+{
+    let is_cbc = names_cbc(segment_string(tree, "encryption"));
+    Ok(PayloadRow {
+        cipher: Text::optional(alloc, segment_string(tree, "encryption"))?,
+        key_bytes: volume_key_size(tree),
+        sector_size: segment_integer(tree, "sector_size"),
+        iv_tweak: segment_decimal(tree, "iv_tweak"),
+        segment_offset: segment_decimal(tree, "offset"),
+        segment_size: segment_size(tree),
+        requirements: requirements(alloc, tree)?,
+        is_cbc,
+    })
+}
+
+// ---- key slots and digests
+
+// The priority of a slot.
+#[tactic(auto, unfolding(crate::specs::Rows2::priority2_of))]
+fn priority(slot: &Value) -> Option<u64>
+    ensures { result ≡ priority2_of (data_of slot.now) }
+{
+    if slot.get("priority").is_none() {
+        return Some(1);
+    }
+    integer_member(slot, "priority")
+}
+
+// The bytes that are under this name in base64, as hexadecimal digits.
+fn digits(alloc: Global, owner: &Value, name: &str) -> Result<Option<Text>, AllocError>
+    ensures { IfOk result (λ text. text
+        ≡ option_map encode_lower (base64_member name.now (data_of owner.now))) }
+{
+    match base64_member(alloc, owner, name)? {
+        Some(bytes) => Ok(Some(Text::digits(alloc, bytes.as_slice())?)),
+        None => Ok(None),
+    }
+}
+
+// The salt of the key derivation.
+fn salt(alloc: Global, slot: &Value) -> Result<Option<Text>, AllocError>
+    ensures { IfOk result (λ text. text ≡ option_map encode_lower
+        (in_member (codes "kdf") (base64_member (codes "salt")) (data_of slot.now))) }
+{
+    match slot.get("kdf") {
+        Some(kdf) => digits(alloc, kdf, "salt"),
+        None => Ok(None),
+    }
+}
+
+// The string under `name` in the object under `object`.
+fn text_in(
+    alloc: Global,
+    slot: &Value,
+    object: &str,
+    name: &str,
+) -> Result<Option<Text>, AllocError>
+    ensures { IfOk result (λ text. text
+        ≡ in_member object.now (string_member name.now) (data_of slot.now)) }
+{
+    Text::optional(alloc, nested_string(slot, object, name))
+}
+
+/// A key slot, with its verdict.
+#[tactic(auto, unfolding(crate::specs::Rows2::slot2_row))]
+pub(crate) fn slot_row(
+    alloc: Global,
+    slot: &Value,
+    number: u8,
+    kind: VerdictKind,
+) -> Result<SlotRow, AllocError>
+    ensures { IfOk result (λ row. row ≡ slot2_row (data_of slot.now) number kind) }
+{
+    Ok(SlotRow {
+        number,
+        state: Text::copied(alloc, kind_text(kind))?,
+        reason: Text::optional(alloc, reason_text(kind))?,
+        can_try: is_kind_usable(kind),
+        priority: priority(slot),
+        key_bytes: integer_member(slot, "key_size"),
+        kdf: text_in(alloc, slot, "kdf", "type")?,
+        hash: text_in(alloc, slot, "kdf", "hash")?,
+        salt: salt(alloc, slot)?,
+        iterations: nested_integer(slot, "kdf", "iterations"),
+        time: nested_integer(slot, "kdf", "time"),
+        memory: nested_integer(slot, "kdf", "memory"),
+        threads: nested_integer(slot, "kdf", "cpus"),
+        af_hash: text_in(alloc, slot, "af", "hash")?,
+        stripes: nested_integer(slot, "af", "stripes"),
+        area_cipher: text_in(alloc, slot, "area", "encryption")?,
+        area_key_bytes: nested_integer(slot, "area", "key_size"),
+        area_offset: nested_decimal(slot, "area", "offset"),
+        area_size: nested_decimal(slot, "area", "size"),
+        holds_key: is_type(slot, "luks2"),
+        is_cbc: names_cbc(nested_string(slot, "area", "encryption")),
+    })
+}
+
+// The number of bytes of a digest.
+fn digest_len(digest: &Value) -> Option<u64>
+    ensures { result ≡ option_map (λ (bytes : List ℕ). length bytes)
+        (base64_member (codes "digest") (data_of digest.now)) }
+{
+    match base64_len(digest, "digest") {
+        Some(len) => Some(len as u64),
+        None => None,
+    }
+}
+
+/// A digest.
+#[tactic(auto, unfolding(crate::specs::Rows2::digest2_row))]
+pub(crate) fn digest_row(alloc: Global, digest: &Value, number: u8) -> Result<DigestRow, AllocError>
+    ensures { IfOk result (λ row. row ≡ digest2_row (data_of digest.now) number) }
+{
+    Ok(DigestRow {
+        number,
+        kind: Text::optional(alloc, string_member(digest, "type"))?,
+        hash: Text::optional(alloc, string_member(digest, "hash"))?,
+        salt: digits(alloc, digest, "salt")?,
+        iterations: integer_member(digest, "iterations"),
+        digest: digits(alloc, digest, "digest")?,
+        bytes: digest_len(digest),
+        keyslots: Some(strings_at(alloc, digest, "keyslots")?),
+        segments: Some(strings_at(alloc, digest, "segments")?),
+    })
+}

@@ -1,14 +1,15 @@
-//! What is weak about a key slot, a digest or a segment.
+//! What is weak about a header.
 
-ghost use Rattle.std.specs.Prelude.{◌≡◌, ◌&&◌, ◌||◌, ◌++◌, IfOk, OnOk, nat_le, nat_lt, option_map};
-ghost use Rattle.luks_audit.specs.Weakness.{begins_cbc, digest_weaknesses, ends_word, found_if};
-ghost use Rattle.luks_audit.specs.Weakness.{is_by_argon2, is_by_pbkdf2};
-ghost use Rattle.luks_audit.specs.Weakness.{has_word_cbc, is_capi_cbc, is_cbc, is_mark, is_sha1};
-ghost use Rattle.luks_audit.specs.Weakness.{least_iterations, least_memory, owasp_iterations};
-ghost use Rattle.luks_audit.specs.Weakness.{short_key_len};
-ghost use Rattle.luks_audit.specs.Weakness.{segment_weaknesses, slot_weaknesses, weakness_name};
+ghost use Rattle.std.specs.Prelude.{◌≡◌, ◌++◌, IfOk, OnOk, flat_map, string_bytes};
+ghost use Rattle.luks_audit.specs.Weakness.{digest_weaknesses, found_if, has_few_iterations};
+ghost use Rattle.luks_audit.specs.Weakness.{has_little_memory, has_short_key, hash_in, is_named};
+ghost use Rattle.luks_audit.specs.Weakness.{is_sha1, is_short, key_weaknesses, least_iterations};
+ghost use Rattle.luks_audit.specs.Weakness.{owasp_iterations, place_of, segment_weaknesses};
+ghost use Rattle.luks_audit.specs.Weakness.{slot_weaknesses, weak_list, weakness_name};
 ghost use Rattle.luks_audit.specs.Weakness.{weakness_of};
 
+use crate::rows::{DigestRow, PayloadRow, SlotRow};
+use crate::text::Text;
 use crate::tree::{Array, Object, Tree};
 use luks_kdf::Hash;
 use std::alloc::{AllocError, Global};
@@ -21,47 +22,6 @@ const LEAST_MEMORY: u64 = 65_536;
 
 /// The least number of iterations of a digest that is not weak.
 const LEAST_DIGEST_ITERATIONS: u64 = 1000;
-
-/// How the key of a slot is derived from a passphrase.
-#[derive(Clone, Copy)]
-pub enum Derivation {
-    /// By PBKDF2.
-    Pbkdf2,
-    /// By Argon2i or Argon2id.
-    Argon2,
-    /// By another function, or by none.
-    Other,
-}
-
-/// The numbers of a key slot that are judged. A number that the header lacks is 0.
-#[derive(Clone, Copy)]
-pub struct SlotStrength {
-    /// How its key is derived.
-    pub derivation: Derivation,
-    /// The hash function of the derivation, if its name is known.
-    pub kdf_hash: Option<Hash>,
-    /// The iterations of PBKDF2.
-    pub iterations: u64,
-    /// The memory of Argon2 in KiB.
-    pub memory: u64,
-    /// The hash function of the stripes, if its name is known.
-    pub af_hash: Option<Hash>,
-    /// Whether the key material is encrypted in CBC mode.
-    pub is_cbc: bool,
-    /// The length of the volume key in bytes.
-    pub key_bytes: u64,
-    /// The length in bytes of the key that encrypts the key material.
-    pub area_key_bytes: u64,
-}
-
-/// The numbers of a digest that are judged.
-#[derive(Clone, Copy)]
-pub struct DigestStrength {
-    /// The hash function, if its name is known.
-    pub hash: Option<Hash>,
-    /// The iterations of PBKDF2, or 0 if they are missing.
-    pub iterations: u64,
-}
 
 /// What is weak about a part of a header.
 #[derive(Clone, Copy)]
@@ -118,59 +78,24 @@ fn least_iterations(minimum: Option<u32>, hash: Option<Hash>) -> u64
     }
 }
 
-/// Whether a mode of dm-crypt is cipher block chaining.
-#[tactic(auto, unfolding(crate::specs::Weakness::is_cbc))]
-pub(crate) fn is_cbc(mode: &[u8]) -> bool
-    ensures { result ≡ is_cbc mode.now }
+// Whether the text is there, and is the expected one.
+fn is_named(text: &Option<Text>, expected: &str) -> bool
+    ensures { result ≡ is_named expected.now text.now }
 {
-    mode.starts_with(b"cbc")
-}
-
-// Whether the byte separates words in the notation of the kernel's crypto API.
-fn is_mark(byte: u8) -> bool
-    ensures { result ≡ is_mark byte }
-{
-    byte == b'(' || byte == b')' || byte == b',' || byte == b'-' || byte == b':'
-}
-
-// Whether a word ends before this byte, or with the text.
-fn ends_word(next: Option<&u8>) -> bool
-    ensures { result ≡ ends_word (option_map (λ b. b.now) next.entry) }
-{
-    match next {
-        Some(byte) => is_mark(*byte),
-        None => true,
+    match text {
+        Some(text) => expected == text.as_str(),
+        None => false,
     }
 }
 
-// Whether the first word of a text is `cbc`.
-#[tactic(auto, unfolding(crate::specs::Weakness::begins_cbc))]
-fn begins_cbc(text: &[u8]) -> bool
-    ensures { result ≡ begins_cbc text.now }
+// The hash function that the text names, if it is known.
+fn hash_in(text: &Option<Text>) -> Option<Hash>
+    ensures { result ≡ hash_in text.now }
 {
-    text.starts_with(b"cbc") && ends_word(text.get(3))
-}
-
-// Whether a word after a mark is `cbc`.
-#[tactic(auto, unfolding(crate::specs::Weakness::has_word_cbc))]
-fn has_word_cbc(text: &[u8]) -> bool
-    ensures { result ≡ has_word_cbc text.now }
-{
-    for mark in 0..text.len() {
-        if is_mark(text[mark]) && begins_cbc(&text[mark + 1..]) {
-            return true;
-        }
+    match text {
+        Some(text) => Hash::from_name(text.as_str()),
+        None => None,
     }
-    false
-}
-
-/// Whether a cipher in the notation of the kernel's crypto API has cipher block chaining among its
-/// templates.
-#[tactic(auto, unfolding(crate::specs::Weakness::is_capi_cbc))]
-pub(crate) fn is_capi_cbc(cipher: &[u8]) -> bool
-    ensures { result ≡ is_capi_cbc cipher.now }
-{
-    cipher.starts_with(b"capi:") && has_word_cbc(cipher)
 }
 
 // Whether the hash function is SHA-1.
@@ -180,16 +105,13 @@ fn is_sha1(hash: Option<Hash>) -> bool
     matches!(hash, Some(Hash::Sha1))
 }
 
-fn is_by_pbkdf2(derivation: Derivation) -> bool
-    ensures { result ≡ is_by_pbkdf2 derivation }
+// A part of a header with its number.
+fn place(alloc: Global, part: &str, number: u8) -> Result<String, AllocError>
+    ensures { IfOk result (λ place. string_bytes place ≡ place_of part.now number) }
 {
-    matches!(derivation, Derivation::Pbkdf2)
-}
-
-fn is_by_argon2(derivation: Derivation) -> bool
-    ensures { result ≡ is_by_argon2 derivation }
-{
-    matches!(derivation, Derivation::Argon2)
+    let mut place = String::from_str(alloc, part)?;
+    write!(place, " {number}")?;
+    Ok(place)
 }
 
 // A weakness of this part of the header.
@@ -220,43 +142,43 @@ fn push_if(
     Ok(())
 }
 
-// Whether a slot has too few iterations of PBKDF2.
-fn has_few_iterations(minimum: Option<u32>, slot: SlotStrength) -> bool
-    ensures { result ≡ (is_by_pbkdf2 slot.derivation
-        && nat_lt slot.iterations (least_iterations minimum slot.kdf_hash)) }
+// Whether PBKDF2 has too few iterations.
+fn has_few_iterations(minimum: Option<u32>, slot: &SlotRow) -> bool
+    ensures { result ≡ has_few_iterations minimum slot.now }
 {
-    is_by_pbkdf2(slot.derivation) && slot.iterations < least_iterations(minimum, slot.kdf_hash)
+    let least = least_iterations(minimum, hash_in(&slot.hash));
+    is_named(&slot.kdf, "pbkdf2") && slot.iterations.unwrap_or(0) < least
+}
+
+// Whether Argon2 has too little memory.
+fn has_little_memory(slot: &SlotRow) -> bool
+    ensures { result ≡ has_little_memory slot.now }
+{
+    (is_named(&slot.kdf, "argon2i") || is_named(&slot.kdf, "argon2id"))
+        && slot.memory.unwrap_or(0) < LEAST_MEMORY
 }
 
 // Whether the volume key, or that of the key material, is short.
-fn has_short_key(slot: SlotStrength) -> bool
-    ensures { result ≡ (nat_le slot.key_bytes short_key_len
-        || nat_le slot.area_key_bytes short_key_len) }
+fn has_short_key(slot: &SlotRow) -> bool
+    ensures { result ≡ has_short_key slot.now }
 {
-    slot.key_bytes <= SHORT_KEY_LEN || slot.area_key_bytes <= SHORT_KEY_LEN
+    slot.key_bytes.unwrap_or(0) <= SHORT_KEY_LEN
+        || slot.area_key_bytes.unwrap_or(0) <= SHORT_KEY_LEN
 }
 
-// Whether a slot has too little memory of Argon2.
-fn has_little_memory(slot: SlotStrength) -> bool
-    ensures { result ≡ (is_by_argon2 slot.derivation && nat_lt slot.memory least_memory) }
-{
-    is_by_argon2(slot.derivation) && slot.memory < LEAST_MEMORY
-}
-
-/// Adds the weaknesses of a key slot. If no minimum of iterations is requested, OWASP's applies.
-#[tactic(auto, unfolding(crate::specs::Weakness::slot_weaknesses))]
-pub fn push_slot_weaknesses(
+// Adds the weaknesses of a key slot that holds a key.
+#[tactic(auto, unfolding(crate::specs::Weakness::key_weaknesses))]
+fn push_key(
     alloc: Global,
     weak: &mut Array,
     minimum: Option<u32>,
     place: &str,
-    slot: SlotStrength,
+    slot: &SlotRow,
 ) -> Result<(), AllocError>
-    ensures { OnOk result
-        (weak.new ≡ weak.old ++ slot_weaknesses minimum place.now slot) }
+    ensures { OnOk result (weak.new ≡ weak.old ++ key_weaknesses minimum place.now slot.now) }
 {
     let few = has_few_iterations(minimum, slot);
-    let broken = is_sha1(slot.kdf_hash) || is_sha1(slot.af_hash);
+    let broken = is_sha1(hash_in(&slot.hash)) || is_sha1(hash_in(&slot.af_hash));
     let short = has_short_key(slot);
     let little = has_little_memory(slot);
     push_if(alloc, weak, few, place, Weakness::FewIterations)?;
@@ -266,46 +188,102 @@ pub fn push_slot_weaknesses(
     push_if(alloc, weak, little, place, Weakness::LittleMemory)
 }
 
-/// Adds the weaknesses of a digest.
-#[tactic(auto, unfolding(crate::specs::Weakness::digest_weaknesses))]
-pub fn push_digest_weaknesses(
+// Adds the weaknesses of a key slot.
+#[tactic(auto, unfolding(crate::specs::Weakness::slot_weaknesses))]
+fn push_slot(
     alloc: Global,
     weak: &mut Array,
-    place: &str,
-    digest: DigestStrength,
+    minimum: Option<u32>,
+    slot: &SlotRow,
 ) -> Result<(), AllocError>
-    ensures { OnOk result (weak.new ≡ weak.old ++ digest_weaknesses place.now digest) }
+    ensures { OnOk result (weak.new ≡ weak.old ++ slot_weaknesses minimum slot.now) }
 {
-    let few = digest.iterations < LEAST_DIGEST_ITERATIONS;
+    if !slot.holds_key {
+        return Ok(());
+    }
+    let place = place(alloc, "slot", slot.number)?;
+    push_key(alloc, weak, minimum, place.as_str(), slot)
+}
+
+// Adds the weaknesses of a digest.
+#[tactic(auto, unfolding(crate::specs::Weakness::digest_weaknesses))]
+fn push_digest(alloc: Global, weak: &mut Array, digest: &DigestRow) -> Result<(), AllocError>
+    ensures { OnOk result (weak.new ≡ weak.old ++ digest_weaknesses digest.now) }
+{
+    let place = place(alloc, "digest", digest.number)?;
+    let broken = is_sha1(hash_in(&digest.hash));
+    let few = digest.iterations.unwrap_or(0) < LEAST_DIGEST_ITERATIONS;
+    push_if(alloc, weak, broken, place.as_str(), Weakness::BrokenHash)?;
     push_if(
         alloc,
         weak,
-        is_sha1(digest.hash),
-        place,
-        Weakness::BrokenHash,
-    )?;
-    push_if(alloc, weak, few, place, Weakness::FewDigestIterations)
+        few,
+        place.as_str(),
+        Weakness::FewDigestIterations,
+    )
 }
 
-/// Adds the weaknesses of the segment: of its mode, and of the volume key, if its length is known.
+// Whether the volume key is short, if its length is known.
+fn is_short(key_bytes: Option<u64>) -> bool
+    ensures { result ≡ is_short key_bytes }
+{
+    match key_bytes {
+        Some(bytes) => bytes <= SHORT_KEY_LEN,
+        None => false,
+    }
+}
+
+// Adds the weaknesses of the segment.
 #[tactic(auto, unfolding(crate::specs::Weakness::segment_weaknesses))]
-pub fn push_segment_weaknesses(
+fn push_segment(alloc: Global, weak: &mut Array, payload: &PayloadRow) -> Result<(), AllocError>
+    ensures { OnOk result (weak.new ≡ weak.old ++ segment_weaknesses payload.now) }
+{
+    let short = is_short(payload.key_bytes);
+    push_if(alloc, weak, payload.is_cbc, "segment", Weakness::CbcMode)?;
+    push_if(alloc, weak, short, "segment", Weakness::ShortKey)
+}
+
+// Adds the weaknesses of the key slots.
+fn push_slots(
     alloc: Global,
     weak: &mut Array,
-    cbc: bool,
-    key_bytes: Option<u64>,
+    minimum: Option<u32>,
+    slots: &[SlotRow],
 ) -> Result<(), AllocError>
-    ensures { OnOk result (weak.new ≡ weak.old ++ segment_weaknesses cbc key_bytes) }
+    ensures { OnOk result
+        (weak.new ≡ weak.old ++ flat_map (slot_weaknesses minimum) slots.now) }
 {
-    push_if(alloc, weak, cbc, "segment", Weakness::CbcMode)?;
-    match key_bytes {
-        Some(bytes) => push_if(
-            alloc,
-            weak,
-            bytes <= SHORT_KEY_LEN,
-            "segment",
-            Weakness::ShortKey,
-        ),
-        None => Ok(()),
+    for slot in slots {
+        push_slot(alloc, weak, minimum, slot)?;
     }
+    Ok(())
+}
+
+// Adds the weaknesses of the digests.
+fn push_digests(alloc: Global, weak: &mut Array, digests: &[DigestRow]) -> Result<(), AllocError>
+    ensures { OnOk result (weak.new ≡ weak.old ++ flat_map digest_weaknesses digests.now) }
+{
+    for digest in digests {
+        push_digest(alloc, weak, digest)?;
+    }
+    Ok(())
+}
+
+/// Everything that is weak. If no minimum of iterations is requested, OWASP's applies.
+#[tactic(auto, unfolding(crate::specs::Weakness::weak_list))]
+pub fn weak_array(
+    alloc: Global,
+    minimum: Option<u32>,
+    payload: &PayloadRow,
+    slots: &[SlotRow],
+    digests: &[DigestRow],
+) -> Result<Array, AllocError>
+    ensures { IfOk result
+        (λ weak. weak ≡ weak_list minimum payload.now slots.now digests.now) }
+{
+    let mut weak = Array::new(alloc);
+    push_segment(alloc, &mut weak, payload)?;
+    push_slots(alloc, &mut weak, minimum, slots)?;
+    push_digests(alloc, &mut weak, digests)?;
+    Ok(weak)
 }

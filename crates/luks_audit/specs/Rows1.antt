@@ -1,0 +1,92 @@
+-- Which member of a LUKS1 header each field is (LUKS1 On-Disk Format Specification 1.2.3, section 2.1, figures 1 to 3).
+use Rattle.std.specs.Prelude.{ℕ, ◌*◌, ◌++◌, ◌||◌, Bool, List, Option, Some, None, codes, not}
+use Rattle.hex.specs.Hex.{encode_lower}
+use Rattle.luks_report.specs.DumpLine.{escaped}
+use Rattle.luks_verdict.specs.Rule.{key_material_len}
+use Rattle.luks_verdict.specs.declared.slot.VerdictKind.{VerdictKind}
+use Rattle.luks1_header.specs.Slot1.{is_disabled}
+use Rattle.luks1_header.specs.declared.header.Header1.{Header1}
+use Rattle.luks1_header.specs.declared.header.StoredSlot.{StoredSlot}
+use Rattle.luks_audit.specs.Cipher.{is_capi_cbc, is_cbc}
+use Rattle.luks_audit.specs.Verdict.{is_kind_usable, kind_text, reason_in}
+use Rattle.luks_audit.specs.declared.rows.DigestRow.{DigestRow}
+use Rattle.luks_audit.specs.declared.rows.HeaderRow.{HeaderRow}
+use Rattle.luks_audit.specs.declared.rows.Length.TheVariants.{Dynamic}
+use Rattle.luks_audit.specs.declared.rows.PayloadRow.{PayloadRow}
+use Rattle.luks_audit.specs.declared.rows.SlotRow.{SlotRow}
+
+-- LUKS1 has one header, without a label or what the binary header of LUKS2 has besides
+unfoldable pub header1_row : Header1 → HeaderRow
+header1_row header = record {
+  version = 1;
+  uuid = escaped header.uuid;
+  label = None;
+  subsystem = None;
+  header = None;
+  other_header = None;
+  seqid = None;
+  header_size = None;
+  checksum_hash = None;
+  salt = None;
+}
+
+-- the cipher and its mode, as dm-crypt names them
+abbrev pub cipher1_of : Header1 → List ℕ
+cipher1_of header = escaped header.cipher_name ++ codes "-" ++ escaped header.cipher_mode
+
+-- sectors are encrypted by cipher block chaining: the mode says that, or the name of the cipher with all its templates
+unfoldable pub is_cbc1 : Header1 → Bool
+is_cbc1 header = is_cbc header.cipher_mode || is_capi_cbc header.cipher_name
+
+-- the payload is in sectors of 512 bytes, which are numbered from 0 on, and goes to the image's end
+unfoldable pub payload1_row : Header1 → PayloadRow
+payload1_row header = record {
+  cipher = Some (cipher1_of header);
+  key_bytes = Some header.key_bytes;
+  sector_size = Some 512;
+  iv_tweak = Some 0;
+  segment_offset = Some (512 * header.payload_offset);
+  segment_size = Some Dynamic;
+  requirements = None;
+  is_cbc = is_cbc1 header;
+}
+
+-- a slot's key is derived by PBKDF2, and its area has the bytes that it needs
+unfoldable pub slot1_row : Header1 → StoredSlot → ℕ → VerdictKind → SlotRow
+slot1_row header slot number kind = record {
+  number = number;
+  state = kind_text kind;
+  reason = reason_in kind;
+  can_try = is_kind_usable kind;
+  priority = Some 1;
+  key_bytes = Some header.key_bytes;
+  kdf = Some (codes "pbkdf2");
+  hash = Some (escaped header.hash_spec);
+  salt = Some (encode_lower slot.salt);
+  iterations = Some slot.iterations;
+  time = None;
+  memory = None;
+  threads = None;
+  af_hash = Some (escaped header.hash_spec);
+  stripes = Some slot.stripes;
+  area_cipher = Some (cipher1_of header);
+  area_key_bytes = Some header.key_bytes;
+  area_offset = Some (512 * slot.offset);
+  area_size = Some (key_material_len header.key_bytes slot.stripes);
+  holds_key = not (is_disabled slot.state);
+  is_cbc = is_cbc1 header;
+}
+
+-- the digest, by which all key slots are recognised: it names none of them
+unfoldable pub digest1_row : Header1 → DigestRow
+digest1_row header = record {
+  number = 0;
+  kind = Some (codes "pbkdf2");
+  hash = Some (escaped header.hash_spec);
+  salt = Some (encode_lower header.digest_salt);
+  iterations = Some header.digest_iterations;
+  digest = Some (encode_lower header.digest);
+  bytes = Some 20;
+  keyslots = None;
+  segments = None;
+}

@@ -1,0 +1,144 @@
+-- Which member of a LUKS2 header each field is (LUKS2 On-Disk Format Specification 1.1, sections 2.1 and 3).
+use Rattle.std.specs.Prelude.{ℕ, ◌+◌, ◌==◌, ◌||◌, Bool, false, List, [], Option, Some, None, codes, drop}
+use Rattle.std.specs.Prelude.{if◌then◌else◌, length, option_and_then, option_map, position, unwrap_or}
+use Rattle.hex.specs.Hex.{encode_lower}
+use Rattle.luks_report.specs.DumpLine.{escaped}
+use Rattle.luks_report.specs.Dump2.{role_text}
+use Rattle.luks_kdf.specs.Hash.{hash_name}
+use Rattle.luks_verdict.specs.Rule.{max_slots}
+use Rattle.luks_verdict.specs.declared.slot.VerdictKind.{VerdictKind}
+use Rattle.luks2_binary.specs.declared.header.Header2.{Header2}
+use Rattle.luks2_binary.specs.declared.header.PairFinding.{PairFinding}
+use Rattle.luks2_binary.specs.declared.header.PairFinding.TheVariants.{PrimaryNotValid, SecondaryNotValid}
+use Rattle.luks2_binary.specs.declared.header.PairFinding.TheVariants.{SequencesDiffer}
+use Rattle.luks2_json.specs.List.{strings_at}
+use Rattle.luks2_json.specs.Member.{base64_member, decimal_member, has, in_member, integer_member, is_type}
+use Rattle.luks2_json.specs.Member.{string_is, string_member}
+use Rattle.luks2_json.specs.Numbered.{lowest, object_numbered}
+use Rattle.luks_audit.specs.Cipher.{is_capi_cbc, is_cbc}
+use Rattle.luks_audit.specs.Verdict.{is_kind_usable, kind_text, reason_in}
+use Rattle.luks_audit.specs.declared.rows.DigestRow.{DigestRow}
+use Rattle.luks_audit.specs.declared.rows.HeaderRow.{HeaderRow}
+use Rattle.luks_audit.specs.declared.rows.Length.{Length}
+use Rattle.luks_audit.specs.declared.rows.Length.TheVariants.{Dynamic, Fixed}
+use Rattle.luks_audit.specs.declared.rows.PayloadRow.{PayloadRow}
+use Rattle.luks_audit.specs.declared.rows.SlotRow.{SlotRow}
+use Rattle.serde_json.specs.Data.{Data}
+use Rattle.serde_json.specs.Find.{get}
+
+-- what is wrong with the header that is not the listed one
+abbrev pub other_header_of : Option PairFinding → Option (List ℕ)
+other_header_of None = None
+other_header_of (Some PrimaryNotValid) = Some (codes "not valid")
+other_header_of (Some SecondaryNotValid) = Some (codes "not valid")
+other_header_of (Some SequencesDiffer) = Some (codes "sequence number differs")
+
+unfoldable pub header2_row : Header2 → HeaderRow
+header2_row header = record {
+  version = 2;
+  uuid = escaped header.uuid;
+  label = Some (escaped header.label);
+  subsystem = Some (escaped header.subsystem);
+  header = Some (role_text header.role);
+  other_header = other_header_of header.finding;
+  seqid = Some header.sequence;
+  header_size = Some header.size;
+  checksum_hash = Some (hash_name header.hash);
+  salt = Some (encode_lower header.salt);
+}
+
+-- ---- the payload: segment 0, whether or not there are others
+
+-- the length of the volume key in bytes, by the lowest-numbered key slot that has one and is of type luks2
+abbrev pub key_size_in : Data → Option ℕ
+key_size_in slot = if is_type (codes "luks2") slot then integer_member (codes "key_size") slot else None
+
+abbrev pub key_size_at : Data → ℕ → Option ℕ
+key_size_at tree number = option_and_then key_size_in (object_numbered (codes "keyslots") tree number)
+
+unfoldable pub volume_key_size : Data → Option ℕ
+volume_key_size tree = lowest (key_size_at tree) max_slots
+
+-- a member of segment 0
+abbrev pub in_segment0 : {T : Type 0} → (Data → Option T) → Data → Option T
+in_segment0 find tree = option_and_then find (object_numbered (codes "segments") tree 0)
+
+-- the segment's length: in bytes, or `dynamic` if it goes to the image's end
+unfoldable pub length_in : Data → Option Length
+length_in segment =
+    if string_is (codes "size") (codes "dynamic") segment then Some Dynamic
+    else option_map Fixed (decimal_member (codes "size") segment)
+
+-- the names of mandatory requirements
+abbrev pub requirements_of : Data → Option (List (List ℕ))
+requirements_of tree =
+    option_map (strings_at (codes "mandatory")) (in_member (codes "config") (get (codes "requirements")) tree)
+
+-- the mode in a cipher's name: what follows the first dash
+unfoldable pub mode_after_dash : List ℕ → List ℕ
+mode_after_dash cipher =
+    unwrap_or (option_map (λ dash. drop (dash + 1) cipher) (position (λ (byte : ℕ). byte == 45) cipher)) []
+
+-- a cipher is named, and is one that uses cipher block chaining
+abbrev pub is_cbc2 : List ℕ → Bool
+is_cbc2 name = is_cbc (mode_after_dash name) || is_capi_cbc name
+
+abbrev pub names_cbc : Option (List ℕ) → Bool
+names_cbc cipher = unwrap_or (option_map is_cbc2 cipher) false
+
+unfoldable pub payload2_row : Data → PayloadRow
+payload2_row tree = record {
+  cipher = in_segment0 (string_member (codes "encryption")) tree;
+  key_bytes = volume_key_size tree;
+  sector_size = in_segment0 (integer_member (codes "sector_size")) tree;
+  iv_tweak = in_segment0 (decimal_member (codes "iv_tweak")) tree;
+  segment_offset = in_segment0 (decimal_member (codes "offset")) tree;
+  segment_size = in_segment0 length_in tree;
+  requirements = requirements_of tree;
+  is_cbc = names_cbc (in_segment0 (string_member (codes "encryption")) tree);
+}
+
+-- ---- key slots and digests
+
+-- the priority: 1 if it is missing
+unfoldable pub priority2_of : Data → Option ℕ
+priority2_of slot = if has (codes "priority") slot then integer_member (codes "priority") slot else Some 1
+
+-- a slot of another type than luks2 holds no key
+unfoldable pub slot2_row : Data → ℕ → VerdictKind → SlotRow
+slot2_row slot number kind = record {
+  number = number;
+  state = kind_text kind;
+  reason = reason_in kind;
+  can_try = is_kind_usable kind;
+  priority = priority2_of slot;
+  key_bytes = integer_member (codes "key_size") slot;
+  kdf = in_member (codes "kdf") (string_member (codes "type")) slot;
+  hash = in_member (codes "kdf") (string_member (codes "hash")) slot;
+  salt = option_map encode_lower (in_member (codes "kdf") (base64_member (codes "salt")) slot);
+  iterations = in_member (codes "kdf") (integer_member (codes "iterations")) slot;
+  time = in_member (codes "kdf") (integer_member (codes "time")) slot;
+  memory = in_member (codes "kdf") (integer_member (codes "memory")) slot;
+  threads = in_member (codes "kdf") (integer_member (codes "cpus")) slot;
+  af_hash = in_member (codes "af") (string_member (codes "hash")) slot;
+  stripes = in_member (codes "af") (integer_member (codes "stripes")) slot;
+  area_cipher = in_member (codes "area") (string_member (codes "encryption")) slot;
+  area_key_bytes = in_member (codes "area") (integer_member (codes "key_size")) slot;
+  area_offset = in_member (codes "area") (decimal_member (codes "offset")) slot;
+  area_size = in_member (codes "area") (decimal_member (codes "size")) slot;
+  holds_key = is_type (codes "luks2") slot;
+  is_cbc = names_cbc (in_member (codes "area") (string_member (codes "encryption")) slot);
+}
+
+unfoldable pub digest2_row : Data → ℕ → DigestRow
+digest2_row digest number = record {
+  number = number;
+  kind = string_member (codes "type") digest;
+  hash = string_member (codes "hash") digest;
+  salt = option_map encode_lower (base64_member (codes "salt") digest);
+  iterations = integer_member (codes "iterations") digest;
+  digest = option_map encode_lower (base64_member (codes "digest") digest);
+  bytes = option_map (λ (bytes : List ℕ). length bytes) (base64_member (codes "digest") digest);
+  keyslots = Some (strings_at (codes "keyslots") digest);
+  segments = Some (strings_at (codes "segments") digest);
+}

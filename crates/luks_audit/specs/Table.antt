@@ -1,0 +1,129 @@
+-- The names of the members of each object, with their values.
+use Rattle.std.specs.Prelude.{ℕ, List, [], ◌∷◌, Option, Some, None, codes, map, option_map, unwrap_or}
+use Rattle.luks2_json.specs.List.{strings_at}
+use Rattle.luks2_json.specs.Member.{string_member}
+use Rattle.luks_audit.specs.Tree.{array_of, empty_object, num, optional_num, optional_text, unless_float, with_fields}
+use Rattle.luks_audit.specs.declared.rows.DigestRow.{DigestRow}
+use Rattle.luks_audit.specs.declared.rows.HeaderRow.{HeaderRow}
+use Rattle.luks_audit.specs.declared.rows.Length.{Length}
+use Rattle.luks_audit.specs.declared.rows.Length.TheVariants.{Dynamic, Fixed}
+use Rattle.luks_audit.specs.declared.rows.PayloadRow.{PayloadRow}
+use Rattle.luks_audit.specs.declared.rows.SlotRow.{SlotRow}
+use Rattle.serde_json.specs.Data.{Data, boolean, null, string}
+
+-- the names of a list, or none
+abbrev pub names_value : Option (List (List ℕ)) → Data
+names_value names = array_of (map string (unwrap_or names []))
+
+-- a segment's length: a number, or `dynamic`
+abbrev pub length_value : Option Length → Data
+length_value None = null
+length_value (Some Dynamic) = string (codes "dynamic")
+length_value (Some (Fixed bytes)) = num bytes
+
+-- where the header was found
+unfoldable pub place_fields : List ℕ → ℕ → List (List ℕ × Data)
+place_fields file offset =
+    (codes "file", string file)
+    ∷ (codes "offset", num offset)
+    ∷ []
+
+unfoldable pub volume_fields : HeaderRow → List (List ℕ × Data)
+volume_fields row =
+    (codes "version", num row.version)
+    ∷ (codes "uuid", string row.uuid)
+    ∷ (codes "label", optional_text row.label)
+    ∷ (codes "subsystem", optional_text row.subsystem)
+    ∷ (codes "header", optional_text row.header)
+    ∷ (codes "other_header", optional_text row.other_header)
+    ∷ []
+
+unfoldable pub binary_fields : HeaderRow → List (List ℕ × Data)
+binary_fields row =
+    (codes "seqid", optional_num row.seqid)
+    ∷ (codes "header_size", optional_num row.header_size)
+    ∷ (codes "checksum_hash", optional_text row.checksum_hash)
+    ∷ (codes "salt", optional_text row.salt)
+    ∷ []
+
+unfoldable pub payload_fields : PayloadRow → List (List ℕ × Data)
+payload_fields row =
+    (codes "cipher", optional_text row.cipher)
+    ∷ (codes "key_bytes", optional_num row.key_bytes)
+    ∷ (codes "sector_size", optional_num row.sector_size)
+    ∷ (codes "iv_tweak", optional_num row.iv_tweak)
+    ∷ (codes "segment_offset", optional_num row.segment_offset)
+    ∷ (codes "segment_size", length_value row.segment_size)
+    ∷ (codes "requirements", names_value row.requirements)
+    ∷ []
+
+unfoldable pub verdict_fields : SlotRow → List (List ℕ × Data)
+verdict_fields row =
+    (codes "number", num row.number)
+    ∷ (codes "state", string row.state)
+    ∷ (codes "reason", optional_text row.reason)
+    ∷ (codes "can_try", boolean row.can_try)
+    ∷ []
+
+unfoldable pub key_fields : SlotRow → List (List ℕ × Data)
+key_fields row =
+    (codes "priority", optional_num row.priority)
+    ∷ (codes "key_bytes", optional_num row.key_bytes)
+    ∷ (codes "kdf", optional_text row.kdf)
+    ∷ (codes "hash", optional_text row.hash)
+    ∷ (codes "salt", optional_text row.salt)
+    ∷ (codes "iterations", optional_num row.iterations)
+    ∷ (codes "time", optional_num row.time)
+    ∷ (codes "memory", optional_num row.memory)
+    ∷ (codes "threads", optional_num row.threads)
+    ∷ []
+
+unfoldable pub area_fields : SlotRow → List (List ℕ × Data)
+area_fields row =
+    (codes "af_hash", optional_text row.af_hash)
+    ∷ (codes "stripes", optional_num row.stripes)
+    ∷ (codes "area_cipher", optional_text row.area_cipher)
+    ∷ (codes "area_key_bytes", optional_num row.area_key_bytes)
+    ∷ (codes "area_offset", optional_num row.area_offset)
+    ∷ (codes "area_size", optional_num row.area_size)
+    ∷ []
+
+unfoldable pub slot_value : SlotRow → Data
+slot_value row =
+    with_fields (area_fields row) (with_fields (key_fields row) (with_fields (verdict_fields row) empty_object))
+
+unfoldable pub digest_value : DigestRow → Data
+digest_value row = with_fields (
+    (codes "number", num row.number)
+    ∷ (codes "type", optional_text row.kind)
+    ∷ (codes "hash", optional_text row.hash)
+    ∷ (codes "salt", optional_text row.salt)
+    ∷ (codes "iterations", optional_num row.iterations)
+    ∷ (codes "digest", optional_text row.digest)
+    ∷ (codes "bytes", optional_num row.bytes)
+    ∷ (codes "keyslots", names_value row.keyslots)
+    ∷ (codes "segments", names_value row.segments)
+    ∷ []) empty_object
+
+-- a token, with its whole object
+unfoldable pub token_value : ℕ → Data → Data
+token_value number token = with_fields (
+    (codes "number", num number)
+    ∷ (codes "type", optional_text (string_member (codes "type") token))
+    ∷ (codes "keyslots", names_value (Some (strings_at (codes "keyslots") token)))
+    ∷ (codes "stored", unless_float token)
+    ∷ []) empty_object
+
+-- the lists of a header
+unfoldable pub list_fields : List Data → List Data → List Data → List (List ℕ × Data)
+list_fields slots digests tokens =
+    (codes "slots", array_of slots)
+    ∷ (codes "digests", array_of digests)
+    ∷ (codes "tokens", array_of tokens)
+    ∷ []
+
+unfoldable pub judged_fields : List Data → List Data → List (List ℕ × Data)
+judged_fields findings weak =
+    (codes "findings", array_of findings)
+    ∷ (codes "weak", array_of weak)
+    ∷ []

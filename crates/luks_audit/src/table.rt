@@ -1,0 +1,221 @@
+//! The names of the members of each object.
+
+ghost use Rattle.std.specs.Prelude.{◌≡◌, IfOk, OnOk, map};
+ghost use Rattle.luks_audit.specs.Table.{area_fields, binary_fields, digest_value, judged_fields};
+ghost use Rattle.luks_audit.specs.Table.{key_fields, list_fields, payload_fields, place_fields};
+ghost use Rattle.luks_audit.specs.Table.{slot_value, token_value, verdict_fields, volume_fields};
+ghost use Rattle.luks_audit.specs.Tree.{with_fields};
+ghost use Rattle.serde_json.specs.View.{view as data_of};
+
+use crate::rows::{DigestRow, HeaderRow, PayloadRow, SlotRow};
+use crate::text::Text;
+use crate::tree::{Array, Object, Tree};
+use luks2_json::list::strings_at;
+use luks2_json::member::string_member;
+use serde_json::Value;
+use std::alloc::{AllocError, Global};
+
+/// Adds where the header was found.
+#[tactic(auto, unfolding(crate::specs::Table::place_fields))]
+pub(crate) fn push_place(
+    alloc: Global,
+    fields: &mut Object,
+    file: &str,
+    offset: u64,
+) -> Result<(), AllocError>
+    ensures { OnOk result (fields.new ≡ with_fields (place_fields file.now offset) fields.old) }
+{
+    fields.push_text(alloc, "file", file)?;
+    fields.push_number(alloc, "offset", offset)
+}
+
+/// Adds the version, the texts, and which header it is.
+#[tactic(auto, unfolding(crate::specs::Table::volume_fields))]
+pub(crate) fn push_volume(
+    alloc: Global,
+    fields: &mut Object,
+    row: &HeaderRow,
+) -> Result<(), AllocError>
+    ensures { OnOk result (fields.new ≡ with_fields (volume_fields row.now) fields.old) }
+{
+    fields.push_number(alloc, "version", row.version)?;
+    fields.push_text(alloc, "uuid", row.uuid.as_str())?;
+    fields.push_optional_text(alloc, "label", &row.label)?;
+    fields.push_optional_text(alloc, "subsystem", &row.subsystem)?;
+    fields.push_optional_text(alloc, "header", &row.header)?;
+    fields.push_optional_text(alloc, "other_header", &row.other_header)
+}
+
+/// Adds the number of its change, its length, and how its checksum is computed.
+#[tactic(auto, unfolding(crate::specs::Table::binary_fields))]
+pub(crate) fn push_binary(
+    alloc: Global,
+    fields: &mut Object,
+    row: &HeaderRow,
+) -> Result<(), AllocError>
+    ensures { OnOk result (fields.new ≡ with_fields (binary_fields row.now) fields.old) }
+{
+    fields.push_optional_number(alloc, "seqid", row.seqid)?;
+    fields.push_optional_number(alloc, "header_size", row.header_size)?;
+    fields.push_optional_text(alloc, "checksum_hash", &row.checksum_hash)?;
+    fields.push_optional_text(alloc, "salt", &row.salt)
+}
+
+/// Adds how the payload is encrypted, where it is, and what the volume requires.
+#[tactic(auto, unfolding(crate::specs::Table::payload_fields))]
+pub(crate) fn push_payload(
+    alloc: Global,
+    fields: &mut Object,
+    row: &PayloadRow,
+) -> Result<(), AllocError>
+    ensures { OnOk result (fields.new ≡ with_fields (payload_fields row.now) fields.old) }
+{
+    fields.push_optional_text(alloc, "cipher", &row.cipher)?;
+    fields.push_optional_number(alloc, "key_bytes", row.key_bytes)?;
+    fields.push_optional_number(alloc, "sector_size", row.sector_size)?;
+    fields.push_optional_number(alloc, "iv_tweak", row.iv_tweak)?;
+    fields.push_optional_number(alloc, "segment_offset", row.segment_offset)?;
+    fields.push_length(alloc, "segment_size", row.segment_size)?;
+    fields.push_names(alloc, "requirements", &row.requirements)
+}
+
+// Adds the number of a slot and its verdict.
+#[tactic(auto, unfolding(crate::specs::Table::verdict_fields))]
+fn push_verdict(alloc: Global, fields: &mut Object, row: &SlotRow) -> Result<(), AllocError>
+    ensures { OnOk result (fields.new ≡ with_fields (verdict_fields row.now) fields.old) }
+{
+    fields.push_number(alloc, "number", u64::from(row.number))?;
+    fields.push_text(alloc, "state", row.state.as_str())?;
+    fields.push_optional_text(alloc, "reason", &row.reason)?;
+    fields.push(alloc, "can_try", Tree::boolean(row.can_try))
+}
+
+// Adds how the key of a slot is derived.
+#[tactic(auto, unfolding(crate::specs::Table::key_fields))]
+fn push_key(alloc: Global, fields: &mut Object, row: &SlotRow) -> Result<(), AllocError>
+    ensures { OnOk result (fields.new ≡ with_fields (key_fields row.now) fields.old) }
+{
+    fields.push_optional_number(alloc, "priority", row.priority)?;
+    fields.push_optional_number(alloc, "key_bytes", row.key_bytes)?;
+    fields.push_optional_text(alloc, "kdf", &row.kdf)?;
+    fields.push_optional_text(alloc, "hash", &row.hash)?;
+    fields.push_optional_text(alloc, "salt", &row.salt)?;
+    fields.push_optional_number(alloc, "iterations", row.iterations)?;
+    fields.push_optional_number(alloc, "time", row.time)?;
+    fields.push_optional_number(alloc, "memory", row.memory)?;
+    fields.push_optional_number(alloc, "threads", row.threads)
+}
+
+// Adds how the key material of a slot is split, where it is, and how it is encrypted.
+#[tactic(auto, unfolding(crate::specs::Table::area_fields))]
+fn push_area(alloc: Global, fields: &mut Object, row: &SlotRow) -> Result<(), AllocError>
+    ensures { OnOk result (fields.new ≡ with_fields (area_fields row.now) fields.old) }
+{
+    fields.push_optional_text(alloc, "af_hash", &row.af_hash)?;
+    fields.push_optional_number(alloc, "stripes", row.stripes)?;
+    fields.push_optional_text(alloc, "area_cipher", &row.area_cipher)?;
+    fields.push_optional_number(alloc, "area_key_bytes", row.area_key_bytes)?;
+    fields.push_optional_number(alloc, "area_offset", row.area_offset)?;
+    fields.push_optional_number(alloc, "area_size", row.area_size)
+}
+
+/// The object of a key slot.
+#[tactic(auto, unfolding(crate::specs::Table::slot_value))]
+pub(crate) fn slot_tree(alloc: Global, row: &SlotRow) -> Result<Tree, AllocError>
+    ensures { IfOk result (λ tree. tree ≡ slot_value row.now) }
+{
+    let mut fields = Object::new(alloc);
+    push_verdict(alloc, &mut fields, row)?;
+    push_key(alloc, &mut fields, row)?;
+    push_area(alloc, &mut fields, row)?;
+    Ok(fields.into_tree())
+}
+
+/// The object of a digest.
+#[tactic(auto, unfolding(crate::specs::Table::digest_value))]
+pub(crate) fn digest_tree(alloc: Global, row: &DigestRow) -> Result<Tree, AllocError>
+    ensures { IfOk result (λ tree. tree ≡ digest_value row.now) }
+{
+    let mut fields = Object::new(alloc);
+    fields.push_number(alloc, "number", u64::from(row.number))?;
+    fields.push_optional_text(alloc, "type", &row.kind)?;
+    fields.push_optional_text(alloc, "hash", &row.hash)?;
+    fields.push_optional_text(alloc, "salt", &row.salt)?;
+    fields.push_optional_number(alloc, "iterations", row.iterations)?;
+    fields.push_optional_text(alloc, "digest", &row.digest)?;
+    fields.push_optional_number(alloc, "bytes", row.bytes)?;
+    fields.push_names(alloc, "keyslots", &row.keyslots)?;
+    fields.push_names(alloc, "segments", &row.segments)?;
+    Ok(fields.into_tree())
+}
+
+/// The object of a token of LUKS2.
+#[tactic(auto, unfolding(crate::specs::Table::token_value))]
+pub(crate) fn token_tree(alloc: Global, number: u8, token: &Value) -> Result<Tree, AllocError>
+    ensures { IfOk result (λ tree. tree ≡ token_value number (data_of token.now)) }
+{
+    let kind = Text::optional(alloc, string_member(token, "type"))?;
+    let keyslots = Some(strings_at(alloc, token, "keyslots")?);
+    let mut fields = Object::new(alloc);
+    fields.push_number(alloc, "number", u64::from(number))?;
+    fields.push_optional_text(alloc, "type", &kind)?;
+    fields.push_names(alloc, "keyslots", &keyslots)?;
+    fields.push(alloc, "stored", Tree::stored(token)?)?;
+    Ok(fields.into_tree())
+}
+
+// The objects of key slots.
+fn slot_array(alloc: Global, rows: &[SlotRow]) -> Result<Array, AllocError>
+    ensures { IfOk result (λ slots. slots ≡ map slot_value rows.now) }
+{
+    let mut slots = Array::new(alloc);
+    for row in rows {
+        slots.push(slot_tree(alloc, row)?)?;
+    }
+    Ok(slots)
+}
+
+// The objects of digests.
+fn digest_array(alloc: Global, rows: &[DigestRow]) -> Result<Array, AllocError>
+    ensures { IfOk result (λ digests. digests ≡ map digest_value rows.now) }
+{
+    let mut digests = Array::new(alloc);
+    for row in rows {
+        digests.push(digest_tree(alloc, row)?)?;
+    }
+    Ok(digests)
+}
+
+/// Adds the key slots, the digests and the tokens.
+#[tactic(auto, unfolding(crate::specs::Table::list_fields))]
+pub(crate) fn push_lists(
+    alloc: Global,
+    fields: &mut Object,
+    slots: &[SlotRow],
+    digests: &[DigestRow],
+    tokens: Array,
+) -> Result<(), AllocError>
+    ensures { OnOk result (fields.new ≡ with_fields
+        (list_fields (map slot_value slots.now) (map digest_value digests.now) tokens)
+        fields.old) }
+{
+    let slots = slot_array(alloc, slots)?;
+    fields.push_array(alloc, "slots", slots)?;
+    let digests = digest_array(alloc, digests)?;
+    fields.push_array(alloc, "digests", digests)?;
+    fields.push_array(alloc, "tokens", tokens)
+}
+
+/// Adds what is wrong and what is weak.
+#[tactic(auto, unfolding(crate::specs::Table::judged_fields))]
+pub(crate) fn push_judged(
+    alloc: Global,
+    fields: &mut Object,
+    findings: Array,
+    weak: Array,
+) -> Result<(), AllocError>
+    ensures { OnOk result (fields.new ≡ with_fields (judged_fields findings weak) fields.old) }
+{
+    fields.push_array(alloc, "findings", findings)?;
+    fields.push_array(alloc, "weak", weak)
+}
