@@ -38,7 +38,7 @@ def slot1(number, text, header):
         "af_hash": header["hash"], "stripes": stripes, "area_cipher": header["cipher"],
         "area_key_bytes": header["key_bytes"],
         "area_offset": 512 * int(fields["Key material offset"]),
-        "area_size": -(-header["key_bytes"] * stripes // 512) * 512}
+        "area_size": -(-header["key_bytes"] * stripes // 512) * 512, "tokens": []}
 
 
 def object1(dump):
@@ -57,6 +57,7 @@ def object1(dump):
         "header_size": None, "checksum_hash": None, "salt": None, "cipher": header["cipher"],
         "key_bytes": header["key_bytes"], "sector_size": 512, "iv_tweak": 0,
         "segment_offset": 512 * int(fields["Payload offset"]), "segment_size": "dynamic",
+        "segment_type": None, "segment_flags": [], "integrity": None, "flags": [],
         "requirements": [], "digests": [digest], "tokens": [],
         "slots": [slot1(int(n), text, header) for n, text in zip(slots[::2], slots[1::2])]}
 
@@ -65,7 +66,12 @@ def hexadecimal(text):
     return base64.b64decode(text, validate=True).hex()
 
 
-def slot2(number, slot):
+def tokens_of(number, tokens):
+    """The tokens that name the key slot of this number."""
+    return [{"number": each["number"], "type": each["type"]} for each in tokens if str(number) in each["keyslots"]]
+
+
+def slot2(number, slot, tokens):
     """A key slot of LUKS2."""
     kdf, af, area = slot["kdf"], slot["af"], slot["area"]
     return {
@@ -74,7 +80,7 @@ def slot2(number, slot):
         "iterations": kdf.get("iterations"), "time": kdf.get("time"), "memory": kdf.get("memory"),
         "threads": kdf.get("cpus"), "af_hash": af["hash"], "stripes": af["stripes"],
         "area_cipher": area["encryption"], "area_key_bytes": area["key_size"],
-        "area_offset": int(area["offset"]), "area_size": int(area["size"])}
+        "area_offset": int(area["offset"]), "area_size": int(area["size"]), "tokens": tokens_of(number, tokens)}
 
 
 def digest2(number, digest):
@@ -97,7 +103,8 @@ def object2(dump, tree, image, role, other):
     """The object of a LUKS2 header. ROLE says which of both headers is listed, and OTHER what is
     wrong with the other one."""
     fields, segment = fields_in(dump), tree["segments"]["0"]
-    slots = numbered(slot2, tree["keyslots"])
+    tokens = numbered(token2, tree["tokens"])
+    slots = numbered(lambda number, slot: slot2(number, slot, tokens), tree["keyslots"])
     size = int(fields["Metadata area"].split()[0])
     binary = image[size if role == "secondary" else 0:][:512]
     return {
@@ -110,9 +117,11 @@ def object2(dump, tree, image, role, other):
         "sector_size": segment["sector_size"], "iv_tweak": int(segment["iv_tweak"]),
         "segment_offset": int(segment["offset"]),
         "segment_size": segment["size"] if segment["size"] == "dynamic" else int(segment["size"]),
+        "segment_type": segment["type"], "segment_flags": segment.get("flags", []),
+        "integrity": segment.get("integrity", {}).get("type"), "flags": tree["config"].get("flags", []),
         "requirements": tree["config"].get("requirements", {}).get("mandatory", []),
         "slots": slots, "digests": numbered(digest2, tree["digests"]),
-        "tokens": numbered(token2, tree["tokens"])}
+        "tokens": tokens}
 
 
 def reported(header, image=None, role="primary", other=None):

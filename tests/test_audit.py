@@ -7,24 +7,28 @@ import json
 import os
 import re
 import resource
+import socket
 import struct
+import subprocess
 
 import documents
 import jsonschema
 import pytest
 from documents import SHELLS, Cook, commands_in, document, example
+from judging import in_two_lists, weaknesses
 from kinds import each_kind
 from payloads import OF_LUKS2, format2, make_several
 from reported import dump_of, reported
 from support import FULL, TOP, must, needs, run
-from volumes import copy_of, cryptsetup, edit_metadata, overwrite, passphrases, with_checksum
+from volumes import copy_of, cryptsetup, edit_metadata, edit_segment, overwrite, passphrases, with_checksum
 
 PAGE = TOP / "docs/luksrd-audit.1"
 GUIDE = TOP / "docs/AUDIT.md"
 SCHEMA = jsonschema.Draft202012Validator(json.loads((TOP / "docs/luksrd-audit.schema.json").read_text()))
 HASHES = ["sha1", "sha224", "sha256", "sha384", "sha512", "ripemd160"]
-JUDGED = ("file", "findings", "weak")
-JUDGED_OF_SLOT = ("state", "reason", "can_try")
+JUDGED = ("file", "findings", "unsupported", "weak", "program_version", "policy")
+JUDGED_OF_SLOT = ("state", "reason", "can_try", "library_can_try")
+VERSION = re.search(r"^\.Os luksrd (.*)$", PAGE.read_text(), re.M)[1]
 WEAK1 = ["slot 0 iterations", "slot 5 iterations"]
 WEAK_SHA1 = ["slot 0 iterations", "slot 0 sha1", "slot 5 iterations", "slot 5 sha1",
              "digest 0 sha1"]
@@ -58,6 +62,7 @@ def listed(audit, line, *arguments, status=1, **how):
     found = [json.loads(text) for text in ended.output.splitlines()]
     for each in found:
         SCHEMA.validate(each)
+        assert (each["program_version"], each["policy"]) == (VERSION, 1)
     return found
 
 
@@ -104,9 +109,29 @@ def check_listed(audit, luksrd, file, image=None, role="primary", other=None):
     """What is listed of a header is what cryptsetup reports, and its findings are luksCheck's."""
     [found] = listed(audit, "", file)
     check_facts(found, reported(file, image, role, other))
-    check = luksrd("luksCheck", file).output.decode().splitlines()
-    assert (found["findings"] or ["clean"]) == check
+    check_judged(luksrd, found, file)
     return found
+
+
+def check_judged(luksrd, found, file, minimum=None):
+    """What is judged is as AUDIT.md says."""
+    check = [line for line in luksrd("luksCheck", file).output.decode().splitlines() if line != "clean"]
+    assert (found["findings"], found["unsupported"]) == in_two_lists(check)
+    kinds = None if found["version"] == 1 else kinds_of(file, found)
+    with open(file, "rb") as header:
+        assert found["weak"] == weaknesses(found, header.read(592), kinds, minimum)
+    for slot in found["slots"]:
+        derives = slot["kdf"] in ("argon2i", "argon2id") and slot["reason"] == slot["kdf"]
+        assert slot["library_can_try"] in ([True, False] if derives else [slot["can_try"]])
+
+
+def kinds_of(file, found):
+    """The types of the key slots of LUKS2 by their numbers."""
+    with open(file, "rb") as image:
+        image.seek((found["header_size"] if found["header"] == "secondary" else 0) + 4096)
+        area = image.read(found["header_size"] - 4096)
+    slots = json.loads(area.partition(b"\0")[0].decode())["keyslots"]
+    return {int(name): isinstance(slot, dict) and slot.get("type") for name, slot in slots.items() if name.isdecimal()}
 
 
 @pytest.mark.parametrize("mode, hash_, bits, names", [
@@ -135,7 +160,8 @@ def test_luks2_lengths(audit, luksrd, image, header, areas):
     ("--hash sha1", ["slot 0 iterations", "slot 0 sha1", "digest 0 sha1"]),
     *((f"--hash {hash_}", ["slot 0 iterations"]) for hash_ in HASHES[1:]),
     ("--cipher aes-xts-plain64 --key-size 512 --sector-size 512", ["slot 0 iterations"]),
-    ("--cipher aes-xts-plain64 --key-size 256 --sector-size 4096", ["slot 0 iterations"]),
+    ("--cipher aes-xts-plain64 --key-size 256 --sector-size 4096",
+     ["segment short-key", "slot 0 iterations", "slot 0 short-key"]),
     ("--cipher aes-cbc-essiv:sha256 --key-size 128 --sector-size 512",
      ["segment cbc", "segment short-key", "slot 0 iterations", "slot 0 cbc", "slot 0 short-key"]),
 ])
@@ -146,14 +172,124 @@ def test_luks2(audit, luksrd, image, line, names):
 
 def test_several_slots(audit, luksrd, here):
     found = check_listed(audit, luksrd, here / "several")
-    assert members(found["slots"], "number", "state", "reason", "can_try") == [
-        [0, "usable", None, True],
-        [1, "usable", None, True],
-        [2, "skipped", "argon2id", False],
-        [10, "usable", None, True],
-        [31, "skipped", "argon2i", False],
+    assert members(found["slots"], "number", "state", "reason", "can_try", "library_can_try") == [
+        [0, "usable", None, True, True],
+        [1, "usable", None, True, True],
+        [2, "skipped", "argon2id", False, True],
+        [10, "usable", None, True, True],
+        [31, "skipped", "argon2i", False, True],
     ]
     assert weak(found) == WEAK_SEVERAL
+
+
+def change_slot(kdf=(), area=(), tokens=()):
+    """Changes the members of a LUKS2 volume's slot 0, and its tokens."""
+    def change(tree):
+        tree["keyslots"]["0"]["kdf"].update(kdf)
+        tree["keyslots"]["0"]["area"].update(area)
+        tree["tokens"].update({str(number): token for number, token in enumerate(tokens)})
+    return change
+
+
+def weak_of(name, place, value, limit, severity):
+    return {"name": name, "place": place, "value": value, "limit": limit, "severity": severity}
+
+
+FEW = weak_of("iterations", "slot 0", 1000, 600000, "high")
+ARGON = {"type": "argon2id", "cpus": 4, "salt": "AAAA"}
+
+
+@pytest.mark.parametrize("change, wanted", [
+    (change_slot(), [FEW]),
+    (change_slot({"iterations": 599999}), [{**FEW, "value": 599999}]),
+    (change_slot(area={"encryption": "cipher_null-ecb"}), [
+        FEW, weak_of("null-cipher", "slot 0", "cipher_null-ecb", None, "high")]),
+    (change_slot(area={"encryption": "aes-ecb", "key_size": 31}), [
+        FEW, weak_of("ecb", "slot 0", "aes-ecb", None, "high"), weak_of("short-key", "slot 0", 31, 32, "low")]),
+    (change_slot(area={"key_size": 63}), [FEW, weak_of("short-key", "slot 0", 31, 32, "low")]),
+    (change_slot(area={"key_size": 64}), [FEW]),
+    (change_slot({**ARGON, "time": 1, "memory": 2097152}), []),
+    (change_slot({**ARGON, "time": 2, "memory": 2097151}), [weak_of("argon2-time", "slot 0", 2, 3, "low")]),
+    (change_slot({**ARGON, "time": 3, "memory": 65535}), [weak_of("argon2-memory", "slot 0", 65535, 65536, "high")]),
+    (change_slot({**ARGON, "time": None, "memory": None}), [
+        weak_of("argon2-memory", "slot 0", None, 65536, "high"), weak_of("argon2-time", "slot 0", None, 3, "low")]),
+    *((change_slot(tokens=[{"type": kind, "keyslots": ["0"]}]), [{**FEW, "severity": "low"}])
+      for kind in ("systemd-tpm2", "systemd-fido2", "systemd-pkcs11", "systemd-recovery", "clevis")),
+    (change_slot({**ARGON, "time": 2, "memory": 65535}, tokens=[{}, {"type": "clevis", "keyslots": ["1", "0"]}]), [
+        weak_of("argon2-memory", "slot 0", 65535, 65536, "low"), weak_of("argon2-time", "slot 0", 2, 3, "low")]),
+    (change_slot(tokens=[{"type": "luks2-keyring", "keyslots": ["0"]}, {"type": "clevis", "keyslots": ["00"]},
+                         {"type": "Clevis", "keyslots": ["0"]}, {"type": "clevis"}]), [FEW]),
+])
+def test_weaknesses(audit, luksrd, image, change, wanted):
+    """What they are, by which number, and how severe; --fail-on says which of them count."""
+    format2(image, "--sector-size 512 --cipher aes-xts-plain64 --key-size 512")
+    edit_metadata(image, change)
+    [found] = listed(audit, "image", status=1 if wanted else 0)
+    assert found["weak"] == wanted
+    check_judged(luksrd, found, image)
+    severe = any(each["severity"] == "high" for each in wanted) or found["findings"] != []
+    assert audit("--fail-on high image").status == (1 if severe else 0)
+    assert audit("--fail-on=low image").status == (1 if wanted else 0)
+
+
+def test_no_encryption(audit, luksrd, made1, image):
+    """Of both versions, in the payload and the key slots."""
+    copy_of(made1("aes-xts-plain64", "sha512", 512), image)
+    overwrite(image, 8, b"cipher_null".ljust(32, b"\0") + b"ecb".ljust(32, b"\0"))
+    [found] = listed(audit, "image")
+    assert weak(found) == ["segment null-cipher", "slot 0 iterations", "slot 0 null-cipher", "slot 5 iterations",
+                           "slot 5 null-cipher"]
+    assert (found["findings"], found["unsupported"]) == ([], ["segment: encryption"])
+    check_judged(luksrd, found, image)
+    format2(image, "--sector-size 512")
+    edit_segment(image, encryption="capi:ecb(cipher_null)-plain")
+    [found] = listed(audit, "image")
+    assert found["weak"][0] == weak_of("null-cipher", "segment", "capi:ecb(cipher_null)-plain", None, "high")
+    check_judged(luksrd, found, image)
+
+
+def test_what_is_not_supported(audit, luksrd, image):
+    """It is apart from what is wrong, and makes no status 1: a healthy volume by Serpent is not damaged."""
+    format2(image, "--sector-size 512")
+    edit_metadata(image, change_slot({"iterations": 600000}, {"encryption": "serpent-xts-plain64"}))
+    edit_segment(image, encryption="serpent-xts-plain64")
+    [found] = listed(audit, "image", status=0)
+    assert (found["findings"], found["unsupported"]) == ([], ["segment: encryption", "slot 0: encryption"])
+    check_judged(luksrd, found, image)
+    overwrite(image, 16384, b"x")
+    [found] = listed(audit, "image")
+    assert found["findings"] == ["secondary header: not valid"]
+    check_judged(luksrd, found, image)
+
+
+def test_members_of_the_segment(audit, luksrd, image):
+    format2(image, "--sector-size 512")
+    edit_metadata(image, lambda tree: tree["config"].update(flags=["allow-discards", "no-read-workqueue"]))
+    edit_segment(image, type="linear", flags=["backup-final", 7], integrity={"type": "hmac(sha256)"})
+    [found] = listed(audit, "image")
+    assert members([found], "segment_type", "segment_flags", "integrity", "flags") == [
+        ["linear", ["backup-final"], "hmac(sha256)", ["allow-discards", "no-read-workqueue"]]]
+    check_judged(luksrd, found, image)
+
+
+HIDDEN = [0x7F, *range(0x80, 0xA0), 0x61C, 0x200E, 0x200F, *range(0x202A, 0x202F), *range(0x2066, 0x206A)]
+SHOWN = [0x7E, 0xA0, 0xA1, 0xE9, 0x61B, 0x61D, 0x200D, 0x2010, 0x2029, 0x202F, 0x2065, 0x206A, 0x20AC, 0x1F512]
+
+
+@pytest.mark.parametrize("options", ["", "--tsv"])
+def test_marks(audit, image, options):
+    """Characters that a terminal obeys, or that change the order of text, are escaped, and no others."""
+    format2(image, "--sector-size 512")
+    kind = "".join(f"{chr(one)}{chr(other)}a" for one in HIDDEN for other in (0xE9, one)) + "".join(map(chr, SHOWN))
+    edit_metadata(image, lambda tree: tree["tokens"].update({"3": {"type": kind, "keyslots": ["0"]}}))
+    text = audit(f"{options} image").output.decode()
+    assert not {chr(one) for one in HIDDEN} & set(text)
+    assert all(chr(one) in text for one in SHOWN)
+    assert all(f"\\u{one:04x}" in text for one in HIDDEN)
+    if not options:
+        [found] = listed(audit, "image")
+        assert found["tokens"][0]["type"] == found["tokens"][0]["stored"]["type"] == kind
+        assert found["slots"][0]["tokens"] == [{"number": 3, "type": kind}]
 
 
 @each_kind
@@ -234,15 +370,17 @@ def test_columns(audit, here):
     rows = [line.split("\t") for line in
             audit("--tsv several missing empty").output.decode().splitlines()]
     assert [[len(row), row[0], row[2], row[3]] for row in rows] == [
-        [25, "file", "error", "version"],
-        [25, "several", "", "2"],
-        [25, "missing", "cannot be opened", ""],
-        [25, "empty", "no LUKS header", ""],
+        [32, "file", "error", "version"],
+        [32, "several", "", "2"],
+        [32, "missing", "cannot be opened", ""],
+        [32, "empty", "no LUKS header", ""],
     ]
     [found] = listed(audit, "several")
     assert json.loads(rows[1][17]) == found["tokens"]
     binary = [str(found[name]) for name in ("seqid", "header_size", "checksum_hash", "iv_tweak")]
     assert [*rows[1][20:23], rows[1][24]] == binary
+    assert set(rows[0]) == set(found) | {"error"}
+    assert rows[2][25:27] == [VERSION, "1"]
 
 
 def test_output_that_cannot_be_written(audit, here):
@@ -290,7 +428,9 @@ def test_output_to_another_file(audit, here):
 
 
 def test_arguments(audit, here):
-    assert audit(".") == (4, b'{"error":"cannot be opened","file":"."}\n', "")
+    assert audit(".") == (4, b'{"error":"cannot be opened","file":".","policy":1,"program_version":"%s"}\n'
+                          % VERSION.encode(), "")
+    assert audit("--fail-on medium several").status == 2
     not_utf8 = audit("several", os.fsdecode(b"a\xff"))
     assert not_utf8 == (2, b"", "luksrd-audit: an argument is not UTF-8\n")
     ended = audit("--help")
@@ -298,8 +438,7 @@ def test_arguments(audit, here):
         0, "Lists what is in LUKS headers, and what is weak about them, as JSON.")
     for line in "", "- -":
         assert audit(line).status == 2
-    version = re.search(r"^\.Os luksrd (.*)$", PAGE.read_text(), re.M)[1]
-    assert audit("--version") == (0, f"luksrd-audit {version}\n".encode(), "")
+    assert audit("--version") == (0, f"luksrd-audit {VERSION}\n".encode(), "")
 
 
 def test_a_hostile_text_forges_no_field(audit, here):
@@ -449,9 +588,23 @@ def commands(first, last):
     return "\n".join(re.findall(r"^    (.*)$", section, re.M))
 
 
+@needs("jq")
+def test_example(shell, here):
+    """The output in the guide is that of its command."""
+    for name, line in {"laptop.img": "--type luks2 --pbkdf argon2id --pbkdf-memory 1048576 --pbkdf-force-iterations 4 "
+                                     "--pbkdf-parallel 4",
+                       "old.img": "--type luks1 --pbkdf-force-iterations 1000 --hash sha1 --key-size 256 "
+                                  "--cipher aes-cbc-essiv:sha256"}.items():
+        with open(here / name, "wb") as image:
+            image.truncate(20 << 20)
+        cryptsetup(f"luksFormat --key-file pass {line} {name}", cwd=here)
+    command, output = re.findall(r"(?:^    .*\n)+", GUIDE.read_text().partition("\n## An example")[2], re.M)[:2]
+    assert shell(f"set -o pipefail; {command}") == (1, re.sub("^    ", "", output, flags=re.M).encode(), "")
+
+
 @needs("jq", "column")
 def test_recipes(shell):
-    ended = shell(commands("Recipes", "What is proved"))
+    ended = shell(commands("Recipes", "A fleet"))
     said = re.sub(r'^\{.*"version":1,.*', "LUKS1", ended.output.decode(), flags=re.M)
     assert said == f"""\
 images/a.img\t1\t-\t{', '.join(WEAK_SHA1)}
@@ -466,6 +619,7 @@ images/b.img  2        aes-xts-plain64  64   {len(WEAK_SEVERAL)}     1
 ["images/b.img",10,1000]
 images/b.img
 [0,1,10]
+[2,31]
 [0,2,true]
 [1048576,1,true]
 LUKS1
@@ -485,6 +639,71 @@ def test_one_partition(shell, audit, disk):
     starts, line = shell(commands("One partition", "Recipes")).output.decode().split("{", 1)
     assert [row.split() for row in starts.splitlines()] == [["1", "2048"], ["2", "40960"]]
     assert json.loads("{" + line) == {**alone, "file": "-"}
+
+
+SSHD = "/usr/sbin/sshd"
+SSHD_CONFIG = """\
+HostKey {folder}/host
+AuthorizedKeysFile {folder}/user.pub
+StrictModes no
+UsePAM no
+PidFile none
+ListenAddress 127.0.0.1:{port}
+SetEnv PATH={path}
+"""
+SSH_CONFIG = """\
+Host one two
+HostName 127.0.0.1
+Port {port}
+IdentityFile {folder}/user
+UserKnownHostsFile /dev/null
+StrictHostKeyChecking no
+LogLevel ERROR
+"""
+
+
+@pytest.fixture
+def machines(shell, here):
+    """This machine by two names, over ssh, and one that does not answer. Instead of devices it has images."""
+    for name in "host", "user":
+        must("ssh-keygen", "-q", "-t", "ed25519", "-N", "", "-f", here / name)
+    with socket.socket() as free:
+        free.bind(("127.0.0.1", 0))
+        names = {"folder": here, "port": free.getsockname()[1], "path": f"{here / 'bin'}:{os.environ['PATH']}"}
+    (here / "sshd_config").write_text(SSHD_CONFIG.format(**names))
+    (here / "ssh_config").write_text(SSH_CONFIG.format(**names))
+    (here / "machines").write_text("one\ntwo\nthree\n")
+    for name, line in {"ssh": f'exec /usr/bin/ssh -F {here}/ssh_config "$@"',
+                       "lsblk": f'printf "%s\\n" "/dev/sda vfat" "{here}/images/a.img crypto_LUKS" '
+                                f'"{here}/images/b.img crypto_LUKS"'}.items():
+        (here / "bin" / name).write_text(f"#!/bin/sh\n{line}\n")
+        (here / "bin" / name).chmod(0o755)
+    os.makedirs("/run/sshd", exist_ok=True)
+    server = subprocess.Popen([SSHD, "-D", "-e", "-f", here / "sshd_config"], stderr=subprocess.DEVNULL)
+    yield here
+    server.terminate()
+    server.wait()
+
+
+@pytest.mark.skipif(os.getuid() != 0 or not os.path.exists(SSHD), reason="only root runs an ssh server here")
+@needs("ssh", "parallel", "jq", "sqlite3")
+def test_fleet(shell, machines):
+    ended = shell(commands("A fleet", "What is proved"))
+    images = [f"{machine}:{machines}/images/{name}.img" for machine in ("one", "two") for name in "ab"]
+    lines = [json.loads(line) for line in (machines / "fleet.jsonl").read_text().splitlines()]
+    assert sorted(line["file"] for line in lines) == images
+    for line in lines:
+        SCHEMA.validate(line)
+    rest = ended.output.decode().splitlines()
+    assert rest[0] == "three"
+    assert sorted(rest[1:5]) == images
+    counts = [line.split() for line in rest[5:-10]]
+    found = [(each["severity"], each["name"]) for line in lines for each in line["weak"]]
+    assert sorted((int(n), *what) for n, *what in counts) == sorted((found.count(it), *it) for it in set(found))
+    rows = [line.split("|") for line in rest[-10:]]
+    assert {tuple(row[:2]) for row in rows} <= {(line["file"], each["place"]) for line in lines for each in line["weak"]}
+    assert [int(row[2]) for row in rows] == sorted(
+        each["value"] for line in lines for each in line["weak"] if each["name"] == "iterations")[:10]
 
 
 @needs("jq")

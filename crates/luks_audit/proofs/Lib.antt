@@ -1,3 +1,4 @@
 pub mod FaultLemmas
 pub mod FloatLemmas
+pub mod MarkLemmas
 pub mod NumberLemmas

@@ -1,6 +1,6 @@
 -- Lists of what numbers give, by ascending number.
 use Rattle.std.proofs.Common.{◌≡◌, ◌∙◌, ℕ, ◌+◌, List, [], ◌++◌, refl, add-one, ap, sym}
-use Rattle.luks_audit.specs.Audit.{by_number}
+use Rattle.luks_audit.specs.Numbers.{by_number}
 
 pub by_number_none : {T : Type 0} (f : ℕ → List T) → by_number f 0 ≡ []
 unfolding by_number

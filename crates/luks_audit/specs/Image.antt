@@ -1,5 +1,5 @@
 -- What is printed of an image, and what its audit shows.
-use Rattle.std.specs.Prelude.{◌≡◌, ◌⊎◌, ℕ, Bool, true, false, List, Option, Result, Ok, Err, codes, if◌then◌else◌}
+use Rattle.std.specs.Prelude.{◌≡◌, ◌⊎◌, ℕ, Bool, true, false, List, Result, Ok, Err, codes, if◌then◌else◌}
 use Rattle.luks_header_area.specs.Area.{is_read_fault}
 use Rattle.luks_header_area.specs.declared.fault.HeaderFault.{HeaderFault}
 use Rattle.luks_header_area.specs.declared.fault.HeaderFault.TheVariants.{NotLuks, Cut, Json, Read, Memory}
@@ -28,8 +28,8 @@ fault_state Json = Flawed
 fault_state Read = Unread
 fault_state Memory = Unread
 
-abbrev pub header_state : Option ℕ → Header → State
-header_state minimum header = if is_clean minimum header then Clean else Flawed
+abbrev pub header_state : Policy → Header → State
+header_state policy header = if is_clean policy header then Clean else Flawed
 
 -- the line of an image without a header
 abbrev pub fault_line : Format → List ℕ → HeaderFault → List ℕ
@@ -45,7 +45,7 @@ line_by policy file (Ok header) = header_line policy file 0 header
 line_by policy file (Err fault) = fault_line policy.format file fault
 
 abbrev pub state_by : Policy → Result Header HeaderFault → State
-state_by policy (Ok header) = header_state policy.minimum header
+state_by policy (Ok header) = header_state policy header
 state_by policy (Err fault) = fault_state fault
 
 -- the line and the state are those of this header, or of the fault in its place

@@ -1,10 +1,14 @@
 pub mod Audit
 pub mod Cipher
+pub mod Finding
 pub mod Image
 pub mod Line
+pub mod Marks
+pub mod Numbers
 pub mod Rows1
 pub mod Rows2
 pub mod Table
+pub mod Token
 pub mod Tree
 pub mod Verdict
 pub mod Weakness

@@ -1,6 +1,8 @@
 -- The lines that are printed: an object as JSON, or its members in columns with tabs between them.
 use Rattle.std.specs.Prelude.{ℕ, ◌++◌, List, [], ◌∷◌, Option, Some, None, codes, flat_map}
 use Rattle.json.specs.Print.{escape}
+use Rattle.luks_audit.specs.Marks.{marks_escaped}
+use Rattle.luks_audit.specs.Table.{program_fields}
 use Rattle.luks_audit.specs.Tree.{empty_object, with_fields}
 use Rattle.luks_audit.specs.declared.line.Format.{Format}
 use Rattle.luks_audit.specs.declared.line.Format.TheVariants.{Json, Tsv}
@@ -15,7 +17,8 @@ columns =
     ∷ codes "header" ∷ codes "other_header" ∷ codes "cipher" ∷ codes "key_bytes" ∷ codes "sector_size"
     ∷ codes "segment_offset" ∷ codes "segment_size" ∷ codes "requirements" ∷ codes "slots" ∷ codes "digests"
     ∷ codes "tokens" ∷ codes "findings" ∷ codes "weak" ∷ codes "seqid" ∷ codes "header_size"
-    ∷ codes "checksum_hash" ∷ codes "salt" ∷ codes "iv_tweak" ∷ []
+    ∷ codes "checksum_hash" ∷ codes "salt" ∷ codes "iv_tweak" ∷ codes "program_version" ∷ codes "policy"
+    ∷ codes "unsupported" ∷ codes "segment_type" ∷ codes "segment_flags" ∷ codes "integrity" ∷ codes "flags" ∷ []
 
 -- what a member has in its column: nothing if it is null, a text as it stands in JSON but without quotation marks, and
 -- any other value as JSON. JSON escapes tabs and newlines
@@ -43,17 +46,22 @@ tabbed_of value name = 9 ∷ column_of value name
 unfoldable pub cells_of : Data → List ℕ
 cells_of value = flat_map (tabbed_of value) columns
 
--- the line of an object
+-- the line of an object, in which no character is one that a terminal obeys
 unfoldable pub line_text : Format → Data → List ℕ
-line_text Json value = compact_text value ++ 10 ∷ []
-line_text Tsv value = column_of value (codes "file") ++ cells_of value ++ 10 ∷ []
+line_text Json value = marks_escaped (compact_text value) ++ 10 ∷ []
+line_text Tsv value = marks_escaped (column_of value (codes "file") ++ cells_of value) ++ 10 ∷ []
+
+-- the name of a column after a tab
+abbrev pub tabbed : List ℕ → List ℕ
+tabbed name = 9 ∷ name
 
 -- the line before all others: the names of the columns, each after the first one after a tab
 unfoldable pub head_of : Format → List ℕ
 head_of Json = []
-head_of Tsv = codes "file" ++ flat_map (λ name. 9 ∷ name) columns ++ 10 ∷ []
+head_of Tsv = codes "file" ++ flat_map tabbed columns ++ 10 ∷ []
 
 -- the object of an image without a header, or of one that could not be read
 unfoldable pub error_value : List ℕ → List ℕ → Data
 error_value file error =
-    with_fields ((codes "file", string file) ∷ (codes "error", string error) ∷ []) empty_object
+    with_fields ((codes "file", string file) ∷ (codes "error", string error) ∷ [])
+    (with_fields program_fields empty_object)

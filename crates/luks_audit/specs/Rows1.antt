@@ -1,5 +1,5 @@
 -- Which member of a LUKS1 header each field is (LUKS1 On-Disk Format Specification 1.2.3, section 2.1, figures 1 to 3).
-use Rattle.std.specs.Prelude.{ℕ, ◌*◌, ◌++◌, ◌||◌, Bool, List, Option, Some, None, codes, not}
+use Rattle.std.specs.Prelude.{ℕ, ◌*◌, ◌++◌, Bool, List, Option, Some, None, codes, not}
 use Rattle.hex.specs.Hex.{encode_lower}
 use Rattle.luks_report.specs.DumpLine.{escaped}
 use Rattle.luks_verdict.specs.Rule.{key_material_len}
@@ -7,8 +7,9 @@ use Rattle.luks_verdict.specs.declared.slot.VerdictKind.{VerdictKind}
 use Rattle.luks1_header.specs.Slot1.{is_disabled}
 use Rattle.luks1_header.specs.declared.header.Header1.{Header1}
 use Rattle.luks1_header.specs.declared.header.StoredSlot.{StoredSlot}
-use Rattle.luks_audit.specs.Cipher.{is_capi_cbc, is_cbc}
+use Rattle.luks_audit.specs.Cipher.{mode_of}
 use Rattle.luks_audit.specs.Verdict.{is_kind_usable, kind_text, reason_in}
+use Rattle.luks_audit.specs.declared.rows.CipherMode.{CipherMode}
 use Rattle.luks_audit.specs.declared.rows.DigestRow.{DigestRow}
 use Rattle.luks_audit.specs.declared.rows.HeaderRow.{HeaderRow}
 use Rattle.luks_audit.specs.declared.rows.Length.TheVariants.{Dynamic}
@@ -34,9 +35,9 @@ header1_row header = record {
 abbrev pub cipher1_of : Header1 → List ℕ
 cipher1_of header = escaped header.cipher_name ++ codes "-" ++ escaped header.cipher_mode
 
--- sectors are encrypted by cipher block chaining: the mode says that, or the name of the cipher with all its templates
-unfoldable pub is_cbc1 : Header1 → Bool
-is_cbc1 header = is_cbc header.cipher_mode || is_capi_cbc header.cipher_name
+-- how the cipher encrypts sectors: in the notation of the kernel's crypto API its name has all its templates
+unfoldable pub cipher_mode1 : Header1 → CipherMode
+cipher_mode1 header = mode_of header.cipher_name header.cipher_name header.cipher_mode
 
 -- the payload is in sectors of 512 bytes, which are numbered from 0 on, and goes to the image's end
 unfoldable pub payload1_row : Header1 → PayloadRow
@@ -47,17 +48,22 @@ payload1_row header = record {
   iv_tweak = Some 0;
   segment_offset = Some (512 * header.payload_offset);
   segment_size = Some Dynamic;
+  segment_type = None;
+  segment_flags = None;
+  integrity = None;
+  flags = None;
   requirements = None;
-  is_cbc = is_cbc1 header;
+  mode = cipher_mode1 header;
 }
 
 -- a slot's key is derived by PBKDF2, and its area has the bytes that it needs
-unfoldable pub slot1_row : Header1 → StoredSlot → ℕ → VerdictKind → SlotRow
-slot1_row header slot number kind = record {
+unfoldable pub slot1_row : Header1 → StoredSlot → ℕ → VerdictKind → Bool → SlotRow
+slot1_row header slot number kind library_can_try = record {
   number = number;
   state = kind_text kind;
   reason = reason_in kind;
   can_try = is_kind_usable kind;
+  library_can_try = library_can_try;
   priority = Some 1;
   key_bytes = Some header.key_bytes;
   kdf = Some (codes "pbkdf2");
@@ -74,7 +80,7 @@ slot1_row header slot number kind = record {
   area_offset = Some (512 * slot.offset);
   area_size = Some (key_material_len header.key_bytes slot.stripes);
   holds_key = not (is_disabled slot.state);
-  is_cbc = is_cbc1 header;
+  mode = cipher_mode1 header;
 }
 
 -- the digest, by which all key slots are recognised: it names none of them

@@ -1,6 +1,6 @@
 -- Which member of a LUKS2 header each field is (LUKS2 On-Disk Format Specification 1.1, sections 2.1 and 3).
-use Rattle.std.specs.Prelude.{ℕ, ◌+◌, ◌==◌, ◌||◌, Bool, false, List, [], Option, Some, None, codes, drop}
-use Rattle.std.specs.Prelude.{if◌then◌else◌, length, option_and_then, option_map, position, unwrap_or}
+use Rattle.std.specs.Prelude.{ℕ, ◌+◌, ◌==◌, Bool, List, [], Option, Some, None, codes, drop}
+use Rattle.std.specs.Prelude.{if◌then◌else◌, length, option_and_then, option_map, position, take, unwrap_or}
 use Rattle.hex.specs.Hex.{encode_lower}
 use Rattle.luks_report.specs.DumpLine.{escaped}
 use Rattle.luks_report.specs.Dump2.{role_text}
@@ -15,14 +15,18 @@ use Rattle.luks2_json.specs.List.{strings_at}
 use Rattle.luks2_json.specs.Member.{base64_member, decimal_member, has, in_member, integer_member, is_type}
 use Rattle.luks2_json.specs.Member.{string_is, string_member}
 use Rattle.luks2_json.specs.Numbered.{lowest, object_numbered}
-use Rattle.luks_audit.specs.Cipher.{is_capi_cbc, is_cbc}
+use Rattle.luks_audit.specs.Cipher.{mode_of}
 use Rattle.luks_audit.specs.Verdict.{is_kind_usable, kind_text, reason_in}
+use Rattle.luks_audit.specs.Tree.{unless_float}
+use Rattle.luks_audit.specs.declared.rows.CipherMode.{CipherMode}
+use Rattle.luks_audit.specs.declared.rows.CipherMode.TheVariants.{Other}
 use Rattle.luks_audit.specs.declared.rows.DigestRow.{DigestRow}
 use Rattle.luks_audit.specs.declared.rows.HeaderRow.{HeaderRow}
 use Rattle.luks_audit.specs.declared.rows.Length.{Length}
 use Rattle.luks_audit.specs.declared.rows.Length.TheVariants.{Dynamic, Fixed}
 use Rattle.luks_audit.specs.declared.rows.PayloadRow.{PayloadRow}
 use Rattle.luks_audit.specs.declared.rows.SlotRow.{SlotRow}
+use Rattle.luks_audit.specs.declared.rows.TokenRow.{TokenRow}
 use Rattle.serde_json.specs.Data.{Data}
 use Rattle.serde_json.specs.Find.{get}
 
@@ -74,17 +78,29 @@ abbrev pub requirements_of : Data → Option (List (List ℕ))
 requirements_of tree =
     option_map (strings_at (codes "mandatory")) (in_member (codes "config") (get (codes "requirements")) tree)
 
+-- the strings in `flags` of segment 0 and of the configuration
+abbrev pub segment_flags_of : Data → Option (List (List ℕ))
+segment_flags_of tree = option_map (strings_at (codes "flags")) (object_numbered (codes "segments") tree 0)
+
+abbrev pub flags_of : Data → Option (List (List ℕ))
+flags_of tree = option_map (strings_at (codes "flags")) (get (codes "config") tree)
+
 -- the mode in a cipher's name: what follows the first dash
 unfoldable pub mode_after_dash : List ℕ → List ℕ
 mode_after_dash cipher =
     unwrap_or (option_map (λ dash. drop (dash + 1) cipher) (position (λ (byte : ℕ). byte == 45) cipher)) []
 
--- a cipher is named, and is one that uses cipher block chaining
-abbrev pub is_cbc2 : List ℕ → Bool
-is_cbc2 name = is_cbc (mode_after_dash name) || is_capi_cbc name
+-- the name in a cipher's name: what precedes the first dash, or all of it
+unfoldable pub name_before_dash : List ℕ → List ℕ
+name_before_dash cipher =
+    unwrap_or (option_map (λ dash. take dash cipher) (position (λ (byte : ℕ). byte == 45) cipher)) cipher
 
-abbrev pub names_cbc : Option (List ℕ) → Bool
-names_cbc cipher = unwrap_or (option_map is_cbc2 cipher) false
+-- how a cipher encrypts sectors, if one is named
+abbrev pub named_mode : List ℕ → CipherMode
+named_mode cipher = mode_of cipher (name_before_dash cipher) (mode_after_dash cipher)
+
+unfoldable pub cipher_mode2 : Option (List ℕ) → CipherMode
+cipher_mode2 cipher = unwrap_or (option_map named_mode cipher) Other
 
 unfoldable pub payload2_row : Data → PayloadRow
 payload2_row tree = record {
@@ -94,23 +110,28 @@ payload2_row tree = record {
   iv_tweak = in_segment0 (decimal_member (codes "iv_tweak")) tree;
   segment_offset = in_segment0 (decimal_member (codes "offset")) tree;
   segment_size = in_segment0 length_in tree;
+  segment_type = in_segment0 (string_member (codes "type")) tree;
+  segment_flags = segment_flags_of tree;
+  integrity = in_segment0 (in_member (codes "integrity") (string_member (codes "type"))) tree;
+  flags = flags_of tree;
   requirements = requirements_of tree;
-  is_cbc = names_cbc (in_segment0 (string_member (codes "encryption")) tree);
+  mode = cipher_mode2 (in_segment0 (string_member (codes "encryption")) tree);
 }
 
--- ---- key slots and digests
+-- ---- key slots, digests and tokens
 
 -- the priority: 1 if it is missing
 unfoldable pub priority2_of : Data → Option ℕ
 priority2_of slot = if has (codes "priority") slot then integer_member (codes "priority") slot else Some 1
 
 -- a slot of another type than luks2 holds no key
-unfoldable pub slot2_row : Data → ℕ → VerdictKind → SlotRow
-slot2_row slot number kind = record {
+unfoldable pub slot2_row : Data → ℕ → VerdictKind → Bool → SlotRow
+slot2_row slot number kind library_can_try = record {
   number = number;
   state = kind_text kind;
   reason = reason_in kind;
   can_try = is_kind_usable kind;
+  library_can_try = library_can_try;
   priority = priority2_of slot;
   key_bytes = integer_member (codes "key_size") slot;
   kdf = in_member (codes "kdf") (string_member (codes "type")) slot;
@@ -127,7 +148,7 @@ slot2_row slot number kind = record {
   area_offset = in_member (codes "area") (decimal_member (codes "offset")) slot;
   area_size = in_member (codes "area") (decimal_member (codes "size")) slot;
   holds_key = is_type (codes "luks2") slot;
-  is_cbc = names_cbc (in_member (codes "area") (string_member (codes "encryption")) slot);
+  mode = cipher_mode2 (in_member (codes "area") (string_member (codes "encryption")) slot);
 }
 
 unfoldable pub digest2_row : Data → ℕ → DigestRow
@@ -141,4 +162,13 @@ digest2_row digest number = record {
   bytes = option_map (λ (bytes : List ℕ). length bytes) (base64_member (codes "digest") digest);
   keyslots = Some (strings_at (codes "keyslots") digest);
   segments = Some (strings_at (codes "segments") digest);
+}
+
+-- a token, with its whole object
+unfoldable pub token2_row : Data → ℕ → TokenRow
+token2_row token number = record {
+  number = number;
+  kind = string_member (codes "type") token;
+  keyslots = strings_at (codes "keyslots") token;
+  stored = unless_float token;
 }

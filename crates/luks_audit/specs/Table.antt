@@ -1,14 +1,14 @@
 -- The names of the members of each object, with their values.
 use Rattle.std.specs.Prelude.{ℕ, List, [], ◌∷◌, Option, Some, None, codes, map, option_map, unwrap_or}
-use Rattle.luks2_json.specs.List.{strings_at}
-use Rattle.luks2_json.specs.Member.{string_member}
-use Rattle.luks_audit.specs.Tree.{array_of, empty_object, num, optional_num, optional_text, unless_float, with_fields}
+use Rattle.luks_audit.specs.Token.{slot_tokens}
+use Rattle.luks_audit.specs.Tree.{array_of, empty_object, num, optional_num, optional_text, with_fields}
 use Rattle.luks_audit.specs.declared.rows.DigestRow.{DigestRow}
 use Rattle.luks_audit.specs.declared.rows.HeaderRow.{HeaderRow}
 use Rattle.luks_audit.specs.declared.rows.Length.{Length}
 use Rattle.luks_audit.specs.declared.rows.Length.TheVariants.{Dynamic, Fixed}
 use Rattle.luks_audit.specs.declared.rows.PayloadRow.{PayloadRow}
 use Rattle.luks_audit.specs.declared.rows.SlotRow.{SlotRow}
+use Rattle.luks_audit.specs.declared.rows.TokenRow.{TokenRow}
 use Rattle.serde_json.specs.Data.{Data, boolean, null, string}
 
 -- the names of a list, or none
@@ -20,6 +20,19 @@ abbrev pub length_value : Option Length → Data
 length_value None = null
 length_value (Some Dynamic) = string (codes "dynamic")
 length_value (Some (Fixed bytes)) = num bytes
+
+-- which program printed the line, and by which policy
+abbrev pub program_version : List ℕ
+program_version = codes "1.2.0"
+
+abbrev pub policy_number : ℕ
+policy_number = 1
+
+unfoldable pub program_fields : List (List ℕ × Data)
+program_fields =
+    (codes "program_version", string program_version)
+    ∷ (codes "policy", num policy_number)
+    ∷ []
 
 -- where the header was found
 unfoldable pub place_fields : List ℕ → ℕ → List (List ℕ × Data)
@@ -54,6 +67,14 @@ payload_fields row =
     ∷ (codes "iv_tweak", optional_num row.iv_tweak)
     ∷ (codes "segment_offset", optional_num row.segment_offset)
     ∷ (codes "segment_size", length_value row.segment_size)
+    ∷ []
+
+unfoldable pub segment_fields : PayloadRow → List (List ℕ × Data)
+segment_fields row =
+    (codes "segment_type", optional_text row.segment_type)
+    ∷ (codes "segment_flags", names_value row.segment_flags)
+    ∷ (codes "integrity", optional_text row.integrity)
+    ∷ (codes "flags", names_value row.flags)
     ∷ (codes "requirements", names_value row.requirements)
     ∷ []
 
@@ -63,6 +84,7 @@ verdict_fields row =
     ∷ (codes "state", string row.state)
     ∷ (codes "reason", optional_text row.reason)
     ∷ (codes "can_try", boolean row.can_try)
+    ∷ (codes "library_can_try", boolean row.library_can_try)
     ∷ []
 
 unfoldable pub key_fields : SlotRow → List (List ℕ × Data)
@@ -88,9 +110,11 @@ area_fields row =
     ∷ (codes "area_size", optional_num row.area_size)
     ∷ []
 
-unfoldable pub slot_value : SlotRow → Data
-slot_value row =
-    with_fields (area_fields row) (with_fields (key_fields row) (with_fields (verdict_fields row) empty_object))
+-- a key slot, with the tokens that are for it
+unfoldable pub slot_value : List TokenRow → SlotRow → Data
+slot_value tokens row =
+    with_fields ((codes "tokens", array_of (slot_tokens row.number tokens)) ∷ [])
+    (with_fields (area_fields row) (with_fields (key_fields row) (with_fields (verdict_fields row) empty_object)))
 
 unfoldable pub digest_value : DigestRow → Data
 digest_value row = with_fields (
@@ -105,25 +129,25 @@ digest_value row = with_fields (
     ∷ (codes "segments", names_value row.segments)
     ∷ []) empty_object
 
--- a token, with its whole object
-unfoldable pub token_value : ℕ → Data → Data
-token_value number token = with_fields (
-    (codes "number", num number)
-    ∷ (codes "type", optional_text (string_member (codes "type") token))
-    ∷ (codes "keyslots", names_value (Some (strings_at (codes "keyslots") token)))
-    ∷ (codes "stored", unless_float token)
+unfoldable pub token_value : TokenRow → Data
+token_value row = with_fields (
+    (codes "number", num row.number)
+    ∷ (codes "type", optional_text row.kind)
+    ∷ (codes "keyslots", names_value (Some row.keyslots))
+    ∷ (codes "stored", row.stored)
     ∷ []) empty_object
 
 -- the lists of a header
-unfoldable pub list_fields : List Data → List Data → List Data → List (List ℕ × Data)
+unfoldable pub list_fields : List SlotRow → List DigestRow → List TokenRow → List (List ℕ × Data)
 list_fields slots digests tokens =
-    (codes "slots", array_of slots)
-    ∷ (codes "digests", array_of digests)
-    ∷ (codes "tokens", array_of tokens)
+    (codes "slots", array_of (map (slot_value tokens) slots))
+    ∷ (codes "digests", array_of (map digest_value digests))
+    ∷ (codes "tokens", array_of (map token_value tokens))
     ∷ []
 
-unfoldable pub judged_fields : List Data → List Data → List (List ℕ × Data)
-judged_fields findings weak =
+unfoldable pub judged_fields : List Data → List Data → List Data → List (List ℕ × Data)
+judged_fields findings unsupported weak =
     (codes "findings", array_of findings)
+    ∷ (codes "unsupported", array_of unsupported)
     ∷ (codes "weak", array_of weak)
     ∷ []

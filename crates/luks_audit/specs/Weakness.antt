@@ -1,17 +1,26 @@
 -- What is weak, judged by fields that headers of both formats have. A number that a header lacks counts as 0.
-use Rattle.std.specs.Prelude.{ℕ, ◌&&◌, ◌||◌, ◌++◌, Bool, true, false, List, [], ◌∷◌, Option, Some, None, bytes_eq}
-use Rattle.std.specs.Prelude.{codes, decimal, flat_map, if◌then◌else◌, nat_le, nat_lt, option_and_then, option_map}
-use Rattle.std.specs.Prelude.{unwrap_or}
+use Rattle.std.specs.Prelude.{ℕ, ◌/◌, ◌&&◌, ◌||◌, ◌++◌, Bool, true, false, List, [], ◌∷◌, Option, Some, None, codes, decimal}
+use Rattle.std.specs.Prelude.{flat_map, if◌then◌else◌, map, nat_le, nat_lt, option_and_then, option_map, unwrap_or}
 use Rattle.luks_kdf.specs.Hash.{hash_named}
 use Rattle.luks_kdf.specs.declared.hash.Hash.{Hash}
 use Rattle.luks_kdf.specs.declared.hash.Hash.TheVariants.{Sha1, Sha224, Sha256, Sha384, Sha512}
-use Rattle.luks_audit.specs.Tree.{empty_object, with_fields}
+use Rattle.luks_audit.specs.Token.{has_random_key, is_named}
+use Rattle.luks_audit.specs.Tree.{empty_object, optional_num, with_fields}
+use Rattle.luks_audit.specs.declared.rows.CipherMode.{CipherMode}
+use Rattle.luks_audit.specs.declared.rows.CipherMode.TheVariants.{Null, Ecb, Cbc, Xts, Other}
 use Rattle.luks_audit.specs.declared.rows.DigestRow.{DigestRow}
 use Rattle.luks_audit.specs.declared.rows.PayloadRow.{PayloadRow}
 use Rattle.luks_audit.specs.declared.rows.SlotRow.{SlotRow}
-use Rattle.luks_audit.specs.declared.weakness.Weakness.{Weakness}
-use Rattle.luks_audit.specs.declared.weakness.Weakness.TheVariants.{FewIterations, BrokenHash, CbcMode, ShortKey}
-use Rattle.luks_audit.specs.declared.weakness.Weakness.TheVariants.{LittleMemory, FewDigestIterations}
+use Rattle.luks_audit.specs.declared.rows.TokenRow.{TokenRow}
+use Rattle.luks_audit.specs.declared.weak_row.Part.{Part}
+use Rattle.luks_audit.specs.declared.weak_row.Part.TheVariants.{Segment, Slot, Digest}
+use Rattle.luks_audit.specs.declared.weak_row.Severity.{Severity}
+use Rattle.luks_audit.specs.declared.weak_row.Severity.TheVariants.{Low, High}
+use Rattle.luks_audit.specs.declared.weak_row.WeakRow.{WeakRow}
+use Rattle.luks_audit.specs.declared.weak_row.Weakness.{Weakness}
+use Rattle.luks_audit.specs.declared.weak_row.Weakness.TheVariants.{NullCipher, EcbMode, FewIterations, BrokenHash}
+use Rattle.luks_audit.specs.declared.weak_row.Weakness.TheVariants.{CbcMode, ShortKey, LittleMemory, FewPasses}
+use Rattle.luks_audit.specs.declared.weak_row.Weakness.TheVariants.{FewDigestIterations}
 use Rattle.serde_json.specs.Data.{Data, string}
 
 -- ---- the figures
@@ -32,13 +41,18 @@ abbrev pub least_iterations : Option ℕ → Option Hash → ℕ
 least_iterations (Some minimum) hash = minimum
 least_iterations None hash = owasp_iterations hash
 
--- a key of 128 bits
-abbrev pub short_key_len : ℕ
-short_key_len = 16
+-- the least length in bytes of a cipher's key: 256 bits (CNSA 2.0: AES-256)
+abbrev pub least_key_len : ℕ
+least_key_len = 32
 
--- the least memory of Argon2 in KiB: 64 MiB
+-- the least memory of Argon2 in KiB: 64 MiB (RFC 9106, section 4, the second recommended option)
 abbrev pub least_memory : ℕ
 least_memory = 65536
+
+-- the least number of passes of Argon2 over this memory in KiB: one over 2 GiB or more (RFC 9106, section 4, the first
+-- recommended option), and otherwise three (the second one)
+abbrev pub least_passes : ℕ → ℕ
+least_passes memory = if nat_le 2097152 memory then 1 else 3
 
 -- the least number of iterations of a digest (LUKS1 On-Disk Format Specification 1.2.3, section 2.1: the recommended
 -- minimum)
@@ -47,93 +61,183 @@ least_digest_iterations = 1000
 
 -- ---- the tests
 
--- the text is there, and is the expected one
-abbrev pub is_named : List ℕ → Option (List ℕ) → Bool
-is_named expected text = unwrap_or (option_map (bytes_eq expected) text) false
-
 -- the hash function that a text names, if it is known
 abbrev pub hash_in : Option (List ℕ) → Option Hash
 hash_in text = option_and_then hash_named text
 
--- the hash function is SHA-1
+-- the hash function that a text names is SHA-1
 abbrev pub is_sha1 : Option Hash → Bool
 is_sha1 (Some Sha1) = true
 is_sha1 _ = false
+
+abbrev pub names_sha1 : Option (List ℕ) → Bool
+names_sha1 text = is_sha1 (hash_in text)
 
 -- PBKDF2 has fewer iterations than the least number
 abbrev pub has_few_iterations : Option ℕ → SlotRow → Bool
 has_few_iterations minimum slot = is_named (codes "pbkdf2") slot.kdf
     && nat_lt (unwrap_or slot.iterations 0) (least_iterations minimum (hash_in slot.hash))
 
--- Argon2i or Argon2id has less memory than the least
-abbrev pub has_little_memory : SlotRow → Bool
-has_little_memory slot = (is_named (codes "argon2i") slot.kdf || is_named (codes "argon2id") slot.kdf)
-    && nat_lt (unwrap_or slot.memory 0) least_memory
+-- the key is derived by Argon2i or Argon2id
+abbrev pub uses_argon2 : SlotRow → Bool
+uses_argon2 slot = is_named (codes "argon2i") slot.kdf || is_named (codes "argon2id") slot.kdf
 
--- the volume key, or that of the key material, is short
-abbrev pub has_short_key : SlotRow → Bool
-has_short_key slot = nat_le (unwrap_or slot.key_bytes 0) short_key_len
-    || nat_le (unwrap_or slot.area_key_bytes 0) short_key_len
+-- Argon2 has less memory than the least
+abbrev pub has_little_memory : SlotRow → Bool
+has_little_memory slot = uses_argon2 slot && nat_lt (unwrap_or slot.memory 0) least_memory
+
+-- Argon2 has fewer passes than the least number for its memory
+abbrev pub has_few_passes : SlotRow → Bool
+has_few_passes slot =
+    uses_argon2 slot && nat_lt (unwrap_or slot.time 0) (least_passes (unwrap_or slot.memory 0))
+
+-- the length in bytes of the cipher's own key, of a key of this length: XTS has two of equal length
+abbrev pub own_key_len : CipherMode → ℕ → ℕ
+own_key_len Xts bytes = bytes / 2
+own_key_len _ bytes = bytes
+
+-- the cipher's own key is short. What is not encrypted has no key
+abbrev pub is_short : CipherMode → ℕ → Bool
+is_short Null bytes = false
+is_short mode bytes = nat_lt (own_key_len mode bytes) least_key_len
+
+-- the volume key is short, if its length is known
+abbrev pub is_known_short : CipherMode → Option ℕ → Bool
+is_known_short mode None = false
+is_known_short mode (Some bytes) = is_short mode bytes
 
 -- ---- weaknesses
 
--- the name of a weakness
+-- a weakness of this part of the header by a number, which is below its limit
+unfoldable pub by_limit : Weakness → Part → Severity → Option ℕ → ℕ → WeakRow
+by_limit weakness part severity number limit = record {
+  weakness = weakness;
+  part = part;
+  text = None;
+  number = number;
+  limit = Some limit;
+  severity = severity;
+}
+
+-- a weakness by the name of a cipher or a hash function
+unfoldable pub by_name : Weakness → Part → Severity → Option (List ℕ) → WeakRow
+by_name weakness part severity text = record {
+  weakness = weakness;
+  part = part;
+  text = text;
+  number = None;
+  limit = None;
+  severity = severity;
+}
+
+-- this weakness, if the test holds
+abbrev pub found_if : Bool → WeakRow → List WeakRow
+found_if holds row = if holds then row ∷ [] else []
+
+-- by a cipher's mode
+unfoldable pub cipher_weaknesses : Part → CipherMode → Option (List ℕ) → List WeakRow
+cipher_weaknesses part Null cipher = by_name NullCipher part High cipher ∷ []
+cipher_weaknesses part Ecb cipher = by_name EcbMode part High cipher ∷ []
+cipher_weaknesses part Cbc cipher = by_name CbcMode part Low cipher ∷ []
+cipher_weaknesses part _ cipher = []
+
+-- by the length of the cipher's own key
+unfoldable pub key_weakness : Part → CipherMode → Option ℕ → WeakRow
+key_weakness part mode bytes = by_limit ShortKey part Low (option_map (own_key_len mode) bytes) least_key_len
+
+-- by the cost of deriving a key is severe, but not if the passphrase is a random key
+abbrev pub cost_severity : SlotRow → List TokenRow → Severity
+cost_severity slot tokens = if has_random_key slot.number tokens then Low else High
+
+-- the hash function of the key derivation, or of the stripes, that is SHA-1
+abbrev pub sha1_of : SlotRow → Option (List ℕ)
+sha1_of slot = if names_sha1 slot.hash then slot.hash else slot.af_hash
+
+-- of how a key slot derives its key
+unfoldable pub cost_weaknesses : Option ℕ → Severity → SlotRow → List WeakRow
+cost_weaknesses minimum severity slot =
+    found_if (has_few_iterations minimum slot)
+    (by_limit FewIterations (Slot slot.number) severity slot.iterations
+    (least_iterations minimum (hash_in slot.hash)))
+    ++ found_if (has_little_memory slot)
+    (by_limit LittleMemory (Slot slot.number) severity slot.memory least_memory)
+    ++ found_if (has_few_passes slot)
+    (by_limit FewPasses (Slot slot.number) Low slot.time (least_passes (unwrap_or slot.memory 0)))
+
+-- of its hash functions, and of how its key material is encrypted
+unfoldable pub area_weaknesses : SlotRow → List WeakRow
+area_weaknesses slot =
+    found_if (names_sha1 slot.hash || names_sha1 slot.af_hash) (by_name BrokenHash (Slot slot.number) Low (sha1_of slot))
+    ++ cipher_weaknesses (Slot slot.number) slot.mode slot.area_cipher
+    ++ found_if (is_short slot.mode (unwrap_or slot.area_key_bytes 0))
+    (key_weakness (Slot slot.number) slot.mode slot.area_key_bytes)
+
+-- of a key slot, if it holds a key
+unfoldable pub slot_weaknesses : Option ℕ → List TokenRow → SlotRow → List WeakRow
+slot_weaknesses minimum tokens slot =
+    if slot.holds_key then cost_weaknesses minimum (cost_severity slot tokens) slot ++ area_weaknesses slot else []
+
+-- of a digest
+unfoldable pub digest_weaknesses : DigestRow → List WeakRow
+digest_weaknesses digest =
+    found_if (names_sha1 digest.hash) (by_name BrokenHash (Digest digest.number) Low digest.hash)
+    ++ found_if (nat_lt (unwrap_or digest.iterations 0) least_digest_iterations)
+    (by_limit FewDigestIterations (Digest digest.number) Low digest.iterations least_digest_iterations)
+
+-- of the segment
+unfoldable pub segment_weaknesses : PayloadRow → List WeakRow
+segment_weaknesses row =
+    cipher_weaknesses Segment row.mode row.cipher
+    ++ found_if (is_known_short row.mode row.key_bytes) (key_weakness Segment row.mode row.key_bytes)
+
+-- everything that is weak, with this minimum of iterations, or OWASP's
+unfoldable pub weak_list : Option ℕ → PayloadRow → List SlotRow → List DigestRow → List TokenRow → List WeakRow
+weak_list minimum payload slots digests tokens =
+    segment_weaknesses payload
+    ++ flat_map (slot_weaknesses minimum tokens) slots
+    ++ flat_map digest_weaknesses digests
+
+-- a weakness of this severity makes a header flawed, if the requested one does
+abbrev pub fails : Severity → Severity → Bool
+fails High Low = false
+fails least severity = true
+
+unfoldable pub any_fails : Severity → List WeakRow → Bool
+any_fails least [] = false
+any_fails least (row ∷ rest) = fails least row.severity || any_fails least rest
+
+-- ---- how a weakness is listed
+
 abbrev pub weakness_name : Weakness → List ℕ
+weakness_name NullCipher = codes "null-cipher"
+weakness_name EcbMode = codes "ecb"
 weakness_name FewIterations = codes "iterations"
 weakness_name BrokenHash = codes "sha1"
 weakness_name CbcMode = codes "cbc"
 weakness_name ShortKey = codes "short-key"
 weakness_name LittleMemory = codes "argon2-memory"
+weakness_name FewPasses = codes "argon2-time"
 weakness_name FewDigestIterations = codes "digest-iterations"
 
--- a part of a header with its number
-abbrev pub place_of : List ℕ → ℕ → List ℕ
-place_of part number = part ++ codes " " ++ decimal number
+abbrev pub severity_name : Severity → List ℕ
+severity_name Low = codes "low"
+severity_name High = codes "high"
 
--- a weakness of this part of the header
-unfoldable pub weakness_of : List ℕ → Weakness → Data
-weakness_of place weakness = with_fields (
-    (codes "name", string (weakness_name weakness))
-    ∷ (codes "place", string place)
+-- a part of a header, with its number
+abbrev pub part_text : Part → List ℕ
+part_text Segment = codes "segment"
+part_text (Slot number) = codes "slot " ++ decimal number
+part_text (Digest number) = codes "digest " ++ decimal number
+
+-- the name or the number that is weak
+abbrev pub weak_by : WeakRow → Data
+weak_by row = unwrap_or (option_map string row.text) (optional_num row.number)
+
+unfoldable pub weak_value : WeakRow → Data
+weak_value row = with_fields (
+    (codes "name", string (weakness_name row.weakness))
+    ∷ (codes "place", string (part_text row.part))
+    ∷ (codes "value", weak_by row)
+    ∷ (codes "limit", optional_num row.limit)
+    ∷ (codes "severity", string (severity_name row.severity))
     ∷ []) empty_object
-
--- this weakness, if the test holds
-unfoldable pub found_if : Bool → List ℕ → Weakness → List Data
-found_if holds place weakness = if holds then weakness_of place weakness ∷ [] else []
-
--- the weaknesses of a key slot, if it holds a key
-unfoldable pub key_weaknesses : Option ℕ → List ℕ → SlotRow → List Data
-key_weaknesses minimum place slot =
-    found_if (has_few_iterations minimum slot) place FewIterations
-    ++ found_if (is_sha1 (hash_in slot.hash) || is_sha1 (hash_in slot.af_hash)) place BrokenHash
-    ++ found_if slot.is_cbc place CbcMode
-    ++ found_if (has_short_key slot) place ShortKey
-    ++ found_if (has_little_memory slot) place LittleMemory
-
-unfoldable pub slot_weaknesses : Option ℕ → SlotRow → List Data
-slot_weaknesses minimum slot =
-    if slot.holds_key then key_weaknesses minimum (place_of (codes "slot") slot.number) slot else []
-
--- the weaknesses of a digest
-unfoldable pub digest_weaknesses : DigestRow → List Data
-digest_weaknesses digest =
-    found_if (is_sha1 (hash_in digest.hash)) (place_of (codes "digest") digest.number) BrokenHash
-    ++ found_if (nat_lt (unwrap_or digest.iterations 0) least_digest_iterations)
-    (place_of (codes "digest") digest.number) FewDigestIterations
-
--- the volume key is short, if its length is known
-abbrev pub is_short : Option ℕ → Bool
-is_short None = false
-is_short (Some bytes) = nat_le bytes short_key_len
-
--- the weaknesses of the segment: of its mode, and of the volume key
-unfoldable pub segment_weaknesses : PayloadRow → List Data
-segment_weaknesses row =
-    found_if row.is_cbc (codes "segment") CbcMode ++ found_if (is_short row.key_bytes) (codes "segment") ShortKey
-
--- everything that is weak, with this minimum of iterations, or OWASP's
-unfoldable pub weak_list : Option ℕ → PayloadRow → List SlotRow → List DigestRow → List Data
-weak_list minimum payload slots digests =
-    segment_weaknesses payload
-    ++ flat_map (slot_weaknesses minimum) slots
-    ++ flat_map digest_weaknesses digests

@@ -1,28 +1,29 @@
 //! A header as one JSON object, and whether anything about it is wrong or weak.
 
-ghost use Rattle.std.specs.Prelude.{◌≡◌, ◌&&◌, ◌==◌, ◌++◌, IfOk, OnOk, length, map};
-ghost use Rattle.luks_audit.specs.Audit.{audit_of, by_number, digest_rows, digest_list};
-ghost use Rattle.luks_audit.specs.Audit.{finding_values, header_row, payload_row, slot_row};
-ghost use Rattle.luks_audit.specs.Audit.{slot_rows, slot_list, token_values};
-ghost use Rattle.luks_report.specs.Findings.{finding_list, finding_text};
-ghost use Rattle.luks_verdict.specs.Rule.{max_slots};
-ghost use Rattle.serde_json.specs.Data.{string};
+ghost use Rattle.std.specs.Prelude.{◌≡◌, ◌++◌, IfOk, OnOk};
+ghost use Rattle.luks_audit.specs.Audit.{audit_of, digest_list, digest_rows, header_row};
+ghost use Rattle.luks_audit.specs.Audit.{library_can_try, library_limits, payload_row, slot_list};
+ghost use Rattle.luks_audit.specs.Audit.{slot_row, slot_rows, token_list, token_rows};
 
-use crate::rows::{DigestRow, HeaderRow, PayloadRow, SlotRow};
+use crate::finding::{finding_array, unsupported_array};
+use crate::image::Policy;
+use crate::rows::{DigestRow, HeaderRow, PayloadRow, SlotRow, TokenRow};
 use crate::table::{
-    push_binary, push_judged, push_lists, push_payload, push_place, push_volume, token_tree,
+    push_binary, push_judged, push_lists, push_payload, push_place, push_program, push_segment,
+    push_volume,
 };
-use crate::tree::{Array, Object, Tree};
-use crate::weakness::weak_array;
+use crate::tree::{Object, Tree};
+use crate::verdict::is_kind_usable;
+use crate::weak_array::weak_array;
+use crate::weakness::{any_fails, weak_list};
 use crate::{luks1, luks2};
-use luks_header::derivation::Limits;
+use luks_header::derivation::{Argon2Limits, Limits};
 use luks_header::header::Header;
 use luks_header::slot::verdict_kind;
-use luks_report::findings::{Finding, finding_list};
+use luks_report::findings::finding_list;
 use luks_verdict::rule::MAX_SLOTS;
 use luks_verdict::slot::VerdictKind;
 use luks2_json::numbered::object_numbered;
-use serde_json::Value;
 use std::alloc::{AllocError, Global};
 
 /// A header, audited.
@@ -30,7 +31,7 @@ use std::alloc::{AllocError, Global};
 pub struct Audit {
     /// The object that lists it.
     pub tree: Tree,
-    /// Whether there is no finding and no weakness.
+    /// Whether there is no finding, and no weakness that the policy counts.
     pub is_clean: bool,
 }
 
@@ -58,6 +59,29 @@ fn payload_row(alloc: Global, header: &Header) -> Result<PayloadRow, AllocError>
     }
 }
 
+// What deriving the key of a slot may cost if the library's default limits apply.
+fn library_limits() -> Limits
+    ensures { result ≡ library_limits }
+{
+    Limits {
+        max_iterations: None,
+        argon2: Some(Argon2Limits {
+            memory_kib: 4_194_304,
+            fill_kib: 67_108_864,
+        }),
+    }
+}
+
+// Whether the library can try the key slot of this number, by its default limits.
+fn library_can_try(header: &Header, number: u8) -> bool
+    ensures { result ≡ library_can_try header.now number }
+{
+    match verdict_kind(header, library_limits(), number) {
+        Some(kind) => is_kind_usable(kind),
+        None => false,
+    }
+}
+
 // The key slot of this number, if the header has it, with this verdict.
 #[tactic(auto, unfolding(crate::specs::Audit::slot_row))]
 fn slot_row(
@@ -68,13 +92,14 @@ fn slot_row(
 ) -> Result<Option<SlotRow>, AllocError>
     ensures { IfOk result (λ row. row ≡ slot_row header.now number kind) }
 {
+    let library = library_can_try(header, number);
     match header {
         Header::V1(header) => match header.slots.get(usize::from(number)) {
-            Some(slot) => Ok(Some(luks1::slot_row(alloc, header, slot, number, kind)?)),
+            Some(slot) => Ok(Some(luks1::slot_row(alloc, header, slot, number, kind, library)?)),
             None => Ok(None),
         },
         Header::V2(_, metadata) => match object_numbered(metadata.tree(), "keyslots", number) {
-            Some(slot) => Ok(Some(luks2::slot_row(alloc, slot, number, kind)?)),
+            Some(slot) => Ok(Some(luks2::slot_row(alloc, slot, number, kind, library)?)),
             None => Ok(None),
         },
     }
@@ -143,67 +168,38 @@ fn digests(alloc: Global, header: &Header) -> Result<Vec<DigestRow>, AllocError>
 }
 
 // Adds the token of this number, if the header has it.
-#[tactic(auto, unfolding(crate::specs::Audit::token_values))]
+#[tactic(auto, unfolding(crate::specs::Audit::token_rows))]
 fn push_token(
     alloc: Global,
-    tokens: &mut Array,
+    rows: &mut Vec<TokenRow>,
     header: &Header,
     number: u8,
 ) -> Result<(), AllocError>
-    ensures { OnOk result (tokens.new ≡ tokens.old ++ token_values header.now number) }
+    ensures { OnOk result (rows.new.items ≡ rows.old.items ++ token_rows header.now number) }
 {
     match header {
         Header::V1(_) => Ok(()),
         Header::V2(_, metadata) => match object_numbered(metadata.tree(), "tokens", number) {
-            Some(token) => tokens.push(token_tree(alloc, number, token)?),
+            Some(token) => Ok(rows.push(luks2::token_row(alloc, token, number)?)?),
             None => Ok(()),
         },
     }
 }
 
 // The tokens by ascending number.
-fn token_array(alloc: Global, header: &Header) -> Result<Array, AllocError>
-    ensures { IfOk result (λ tokens. tokens ≡ by_number (token_values header.now) max_slots) }
+fn tokens(alloc: Global, header: &Header) -> Result<Vec<TokenRow>, AllocError>
+    ensures { IfOk result (λ rows. rows.items ≡ token_list header.now) }
 {
-    let mut tokens = Array::new(alloc);
+    let mut rows = Vec::new(alloc);
     for number in 0..MAX_SLOTS {
-        push_token(alloc, &mut tokens, header, number)?;
+        push_token(alloc, &mut rows, header, number)?;
     }
-    Ok(tokens)
+    Ok(rows)
 }
 
 // ---- the whole header
 
-// A finding as a text.
-fn finding_tree(alloc: Global, finding: Finding) -> Result<Tree, AllocError>
-    ensures { IfOk result (λ tree. tree ≡ string (finding_text finding)) }
-{
-    let mut text = String::new(alloc);
-    finding.push_to(&mut text)?;
-    Ok(Tree::text(text))
-}
-
-// The findings, each a text.
-fn finding_array(alloc: Global, header: &Header) -> Result<Array, AllocError>
-    ensures { IfOk result (λ findings. findings ≡ finding_values header.now) }
-{
-    let found = finding_list(alloc, header)?;
-    let mut findings = Array::new(alloc);
-    for finding in &found {
-        findings.push(finding_tree(alloc, *finding)?)?;
-    }
-    Ok(findings)
-}
-
-// Whether there are neither findings nor weaknesses.
-fn are_empty(findings: &Array, weak: &Array) -> bool
-    ensures { result ≡ ((length findings.now == 0) && (length weak.now == 0)) }
-{
-    findings.len() == 0 && weak.len() == 0
-}
-
-/// Lists a header that was found in a file at this offset, with what is wrong and what is weak. If
-/// no minimum of iterations is requested, OWASP's applies.
+/// Lists a header that was found in a file at this offset, with what is wrong and what is weak.
 ///
 /// # Errors
 ///
@@ -211,40 +207,46 @@ fn are_empty(findings: &Array, weak: &Array) -> bool
 #[tactic(auto, unfolding(crate::specs::Audit::audit_value, crate::specs::Audit::is_clean, crate::specs::Audit::with_volume, crate::specs::Audit::with_lists))]
 pub fn audit_header(
     alloc: Global,
-    minimum: Option<u32>,
+    policy: Policy,
     file: &str,
     offset: u64,
     header: &Header,
 ) -> Result<Audit, AllocError>
-    ensures { IfOk result (λ audit. audit ≡ audit_of minimum file.now offset header.now) }
+    ensures { IfOk result (λ audit. audit ≡ audit_of policy file.now offset header.now) }
 {
     let volume = header_row(alloc, header)?;
     let payload = payload_row(alloc, header)?;
     let slots = slots(alloc, header)?;
     let digests = digests(alloc, header)?;
-    let tokens = token_array(alloc, header)?;
-    let findings = finding_array(alloc, header)?;
-    let weak = weak_array(
+    let tokens = tokens(alloc, header)?;
+    let found = finding_list(alloc, header)?;
+    let weak = weak_list(
         alloc,
-        minimum,
+        policy.minimum,
         &payload,
         slots.as_slice(),
         digests.as_slice(),
+        tokens.as_slice(),
     )?;
-    let is_clean = are_empty(&findings, &weak);
+    let findings = finding_array(alloc, found.as_slice())?;
+    let is_clean = findings.len() == 0 && !any_fails(policy.fail_on, weak.as_slice());
     let mut fields = Object::new(alloc);
+    push_program(alloc, &mut fields)?;
     push_place(alloc, &mut fields, file, offset)?;
     push_volume(alloc, &mut fields, &volume)?;
     push_binary(alloc, &mut fields, &volume)?;
     push_payload(alloc, &mut fields, &payload)?;
+    push_segment(alloc, &mut fields, &payload)?;
     push_lists(
         alloc,
         &mut fields,
         slots.as_slice(),
         digests.as_slice(),
-        tokens,
+        tokens.as_slice(),
     )?;
-    push_judged(alloc, &mut fields, findings, weak)?;
+    let unsupported = unsupported_array(alloc, found.as_slice())?;
+    let weak = weak_array(alloc, weak.as_slice())?;
+    push_judged(alloc, &mut fields, findings, unsupported, weak)?;
     let tree = fields.into_tree();
     Ok(Audit { tree, is_clean })
 }

@@ -1,15 +1,17 @@
-//! Whether a cipher uses cipher block chaining.
+//! How a cipher encrypts sectors, by its name.
 
 ghost use Rattle.std.specs.Prelude.{◌≡◌, option_map};
-ghost use Rattle.luks_audit.specs.Cipher.{begins_cbc, ends_word, has_word_cbc, is_capi_cbc};
-ghost use Rattle.luks_audit.specs.Cipher.{is_cbc, is_mark};
+ghost use Rattle.luks_audit.specs.Cipher.{begins_with, ends_word, has_first_word, has_template};
+ghost use Rattle.luks_audit.specs.Cipher.{has_word, is_mark, is_null, mode_of, uses_mode};
 
-/// Whether a mode of dm-crypt is cipher block chaining.
-#[tactic(auto, unfolding(crate::specs::Cipher::is_cbc))]
-pub(crate) fn is_cbc(mode: &[u8]) -> bool
-    ensures { result ≡ is_cbc mode.now }
+use crate::rows::CipherMode;
+
+// Whether a mode of dm-crypt begins with this word.
+#[tactic(auto, unfolding(crate::specs::Cipher::begins_with))]
+fn begins_with(word: &[u8], mode: &[u8]) -> bool
+    ensures { result ≡ begins_with word.now mode.now }
 {
-    mode.starts_with(b"cbc")
+    mode.starts_with(word)
 }
 
 // Whether the byte separates words in the notation of the kernel's crypto API.
@@ -29,32 +31,68 @@ fn ends_word(next: Option<&u8>) -> bool
     }
 }
 
-// Whether the first word of a text is `cbc`.
-#[tactic(auto, unfolding(crate::specs::Cipher::begins_cbc))]
-fn begins_cbc(text: &[u8]) -> bool
-    ensures { result ≡ begins_cbc text.now }
+// Whether the first word of a text is this one.
+#[tactic(auto, unfolding(crate::specs::Cipher::has_first_word))]
+fn has_first_word(word: &[u8], text: &[u8]) -> bool
+    ensures { result ≡ has_first_word word.now text.now }
 {
-    text.starts_with(b"cbc") && ends_word(text.get(3))
+    begins_with(word, text) && ends_word(text.get(word.len()))
 }
 
-// Whether a word after a mark is `cbc`.
-#[tactic(auto, unfolding(crate::specs::Cipher::has_word_cbc))]
-fn has_word_cbc(text: &[u8]) -> bool
-    ensures { result ≡ has_word_cbc text.now }
+// Whether a word after a mark is this one.
+#[tactic(auto, unfolding(crate::specs::Cipher::has_word))]
+fn has_word(word: &[u8], text: &[u8]) -> bool
+    ensures { result ≡ has_word word.now text.now }
 {
     for mark in 0..text.len() {
-        if is_mark(text[mark]) && begins_cbc(&text[mark + 1..]) {
+        if is_mark(text[mark]) && has_first_word(word, &text[mark + 1..]) {
             return true;
         }
     }
     false
 }
 
-/// Whether a cipher in the notation of the kernel's crypto API has cipher block chaining among its
-/// templates.
-#[tactic(auto, unfolding(crate::specs::Cipher::is_capi_cbc))]
-pub(crate) fn is_capi_cbc(cipher: &[u8]) -> bool
-    ensures { result ≡ is_capi_cbc cipher.now }
+// Whether a cipher in the notation of the kernel's crypto API has this word among its templates and
+// ciphers.
+#[tactic(auto, unfolding(crate::specs::Cipher::has_template))]
+fn has_template(word: &[u8], cipher: &[u8]) -> bool
+    ensures { result ≡ has_template word.now cipher.now }
 {
-    cipher.starts_with(b"capi:") && has_word_cbc(cipher)
+    begins_with(b"capi:", cipher) && has_word(word, cipher)
+}
+
+// Whether a mode, or a template, is this one.
+#[tactic(auto, unfolding(crate::specs::Cipher::uses_mode))]
+fn uses_mode(word: &[u8], cipher: &[u8], mode: &[u8]) -> bool
+    ensures { result ≡ uses_mode word.now cipher.now mode.now }
+{
+    begins_with(word, mode) || has_template(word, cipher)
+}
+
+// Whether nothing is encrypted.
+#[tactic(auto, unfolding(crate::specs::Cipher::is_null))]
+fn is_null(cipher: &[u8], name: &[u8]) -> bool
+    ensures { result ≡ is_null cipher.now name.now }
+{
+    name == b"cipher_null".as_slice()
+        || name == b"null".as_slice()
+        || has_template(b"cipher_null", cipher)
+}
+
+/// How a cipher encrypts sectors, by the cipher as it is named, the name in it, and its mode.
+#[tactic(auto, unfolding(crate::specs::Cipher::mode_of))]
+pub(crate) fn mode_of(cipher: &[u8], name: &[u8], mode: &[u8]) -> CipherMode
+    ensures { result ≡ mode_of cipher.now name.now mode.now }
+{
+    if is_null(cipher, name) {
+        CipherMode::Null
+    } else if uses_mode(b"ecb", cipher, mode) {
+        CipherMode::Ecb
+    } else if uses_mode(b"cbc", cipher, mode) {
+        CipherMode::Cbc
+    } else if uses_mode(b"xts", cipher, mode) {
+        CipherMode::Xts
+    } else {
+        CipherMode::Other
+    }
 }

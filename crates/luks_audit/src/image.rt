@@ -8,6 +8,7 @@ ghost use Rattle.luks_audit.specs.Image.{fault_state, header_line, header_state}
 
 use crate::audit::audit_header;
 use crate::line::{Format, error_tree, line_text};
+use crate::weak_row::Severity;
 use luks_header::fault::HeaderFault;
 use luks_header::header::{Header, read_header};
 use luks_io::source::Source;
@@ -18,6 +19,8 @@ use std::alloc::{AllocError, Global};
 pub struct Policy {
     /// The least number of PBKDF2 iterations that is not weak; without one, OWASP's figures apply.
     pub minimum: Option<u32>,
+    /// How severe a weakness must be to make a header flawed.
+    pub fail_on: Severity,
     /// How objects are printed.
     pub format: Format,
 }
@@ -25,7 +28,7 @@ pub struct Policy {
 /// What the audit of an image showed.
 #[derive(Clone, Copy)]
 pub enum State {
-    /// Nothing is wrong and nothing weak.
+    /// Nothing is wrong, and nothing weak that the policy counts.
     Clean,
     /// Something is, or there is no header.
     Flawed,
@@ -96,9 +99,9 @@ pub fn header_line(
 ) -> Result<ImageLine, AllocError>
     ensures { IfOk result (λ made.
         (made.line.items ≡ header_line policy file.now offset header.now)
-        × (made.state ≡ header_state policy.minimum header.now)) }
+        × (made.state ≡ header_state policy header.now)) }
 {
-    let audit = audit_header(alloc, policy.minimum, file, offset, header)?;
+    let audit = audit_header(alloc, policy, file, offset, header)?;
     let line = line_text(alloc, policy.format, &audit.tree)?;
     let state = if audit.is_clean {
         State::Clean

@@ -7,15 +7,22 @@
 
 pub mod audit;
 mod cipher;
+mod finding;
 mod float;
 pub mod image;
 pub mod line;
 mod luks1;
 mod luks2;
+mod mark;
 mod members;
+pub mod program;
 pub mod rows;
+mod rule;
 mod table;
 pub mod text;
+mod token;
 pub mod tree;
 mod verdict;
+mod weak_array;
+pub mod weak_row;
 pub mod weakness;

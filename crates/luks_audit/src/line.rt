@@ -1,11 +1,14 @@
 //! The lines that are printed.
 
-ghost use Rattle.std.specs.Prelude.{◌≡◌, ◌++◌, ◌∷◌, [], IfOk, List, OnOk, false, map, ℕ};
+ghost use Rattle.std.specs.Prelude.{◌≡◌, ◌++◌, ◌∷◌, [], IfOk, List, OnOk, false};
+ghost use Rattle.std.specs.Prelude.{flat_map, map, ℕ};
 ghost use Rattle.luks_audit.specs.Line.{cell_text, cells_of, column_of, columns, error_value};
-ghost use Rattle.luks_audit.specs.Line.{head_of, line_text, tabbed_of};
+ghost use Rattle.luks_audit.specs.Line.{head_of, line_text, tabbed, tabbed_of};
 ghost use Rattle.serde_json.specs.View.{view as data_of};
 ghost use Rattle.serde_json.specs.Written.{has_float};
 
+use crate::mark::escape_marks;
+use crate::table::push_program;
 use crate::tree::{Object, Tree};
 use serde_json::Value;
 use std::alloc::{AllocError, Global};
@@ -20,7 +23,7 @@ pub enum Format {
 }
 
 /// The columns after the first one, which is the file.
-static COLUMNS: [&str; 24] = [
+static COLUMNS: [&str; 31] = [
     "offset",
     "error",
     "version",
@@ -45,6 +48,13 @@ static COLUMNS: [&str; 24] = [
     "checksum_hash",
     "salt",
     "iv_tweak",
+    "program_version",
+    "policy",
+    "unsupported",
+    "segment_type",
+    "segment_flags",
+    "integrity",
+    "flags",
 ];
 
 // Adds a text without the quotation marks around it.
@@ -128,7 +138,8 @@ pub fn line_text(alloc: Global, format: Format, tree: &Tree) -> Result<Vec<u8>, 
 fn json_line(alloc: Global, tree: &Tree) -> Result<Vec<u8>, AllocError>
     ensures { IfOk result (λ line. line.items ≡ line_text Format.Json tree.now) }
 {
-    let mut line = tree.to_vec(alloc)?;
+    let text = tree.to_vec(alloc)?;
+    let mut line = escape_marks(alloc, text)?;
     line.push(b'\n')?;
     Ok(line)
 }
@@ -138,24 +149,34 @@ fn json_line(alloc: Global, tree: &Tree) -> Result<Vec<u8>, AllocError>
 fn tsv_line(alloc: Global, tree: &Tree) -> Result<Vec<u8>, AllocError>
     ensures { IfOk result (λ line. line.items ≡ line_text Format.Tsv tree.now) }
 {
-    let mut line = Vec::new(alloc);
-    push_column(alloc, &mut line, tree, "file")?;
-    push_cells(alloc, &mut line, tree)?;
+    let mut text = Vec::new(alloc);
+    push_column(alloc, &mut text, tree, "file")?;
+    push_cells(alloc, &mut text, tree)?;
+    let mut line = escape_marks(alloc, text)?;
     line.push(b'\n')?;
     Ok(line)
 }
 
-/// The names of the columns, with tabs between them.
-const HEAD: &str = "file\toffset\terror\tversion\tuuid\tlabel\tsubsystem\theader\tother_header\t\
-    cipher\tkey_bytes\tsector_size\tsegment_offset\tsegment_size\trequirements\tslots\tdigests\t\
-    tokens\tfindings\tweak\tseqid\theader_size\tchecksum_hash\tsalt\tiv_tweak\n";
+// Adds the names of the columns after the first one, each after a tab.
+fn push_names(line: &mut Vec<u8>) -> Result<(), AllocError>
+    ensures { OnOk result (line.new.items ≡ line.old.items ++ flat_map tabbed columns) }
+{
+    for name in columns() {
+        line.push(b'\t')?;
+        line.extend_from_slice(name.as_bytes())?;
+    }
+    Ok(())
+}
 
 // The line with the names of the columns.
 #[tactic(auto, unfolding(crate::specs::Line::head_of))]
 fn tsv_head(alloc: Global) -> Result<Vec<u8>, AllocError>
     ensures { IfOk result (λ line. line.items ≡ head_of Format.Tsv) }
 {
-    HEAD.as_bytes().to_vec(alloc)
+    let mut line = b"file".to_vec(alloc)?;
+    push_names(&mut line)?;
+    line.push(b'\n')?;
+    Ok(line)
 }
 
 /// The line before all others: the names of the columns, or nothing.
@@ -175,6 +196,7 @@ pub fn error_tree(alloc: Global, file: &str, error: &str) -> Result<Tree, AllocE
     ensures { IfOk result (λ tree. tree ≡ error_value file.now error.now) }
 {
     let mut fields = Object::new(alloc);
+    push_program(alloc, &mut fields)?;
     fields.push_text(alloc, "file", file)?;
     fields.push_text(alloc, "error", error)?;
     Ok(fields.into_tree())

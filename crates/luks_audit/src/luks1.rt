@@ -1,13 +1,13 @@
 //! The fields of a LUKS1 header (LUKS1 On-Disk Format Specification 1.2.3).
 
 ghost use Rattle.std.specs.Prelude.{◌≡◌, ◌*◌, IfOk};
-ghost use Rattle.luks_audit.specs.Rows1.{cipher1_of, digest1_row, header1_row, is_cbc1};
+ghost use Rattle.luks_audit.specs.Rows1.{cipher1_of, digest1_row, header1_row, cipher_mode1};
 ghost use Rattle.luks_audit.specs.Rows1.{payload1_row, slot1_row};
 ghost use Rattle.luks_report.specs.DumpLine.{escaped};
 ghost use Rattle.luks1_header.specs.Slot1.{is_disabled};
 
-use crate::cipher::{is_capi_cbc, is_cbc};
-use crate::rows::{DigestRow, HeaderRow, Length, PayloadRow, SlotRow};
+use crate::cipher::mode_of;
+use crate::rows::{CipherMode, DigestRow, HeaderRow, Length, PayloadRow, SlotRow};
 use crate::text::{Text, escape};
 use crate::verdict::{is_kind_usable, kind_text, reason_text};
 use luks_header::header::{Header1, SlotState, StoredSlot};
@@ -46,12 +46,13 @@ fn cipher(alloc: Global, header: &Header1) -> Result<Text, AllocError>
     Ok(Text::new(text))
 }
 
-// Whether sectors are encrypted by cipher block chaining.
-#[tactic(auto, unfolding(crate::specs::Rows1::is_cbc1))]
-fn uses_cbc(header: &Header1) -> bool
-    ensures { result ≡ is_cbc1 header.now }
+// How the cipher encrypts sectors.
+#[tactic(auto, unfolding(crate::specs::Rows1::cipher_mode1))]
+fn mode(header: &Header1) -> CipherMode
+    ensures { result ≡ cipher_mode1 header.now }
 {
-    is_cbc(header.cipher_mode.as_bytes()) || is_capi_cbc(header.cipher_name.as_bytes())
+    let name = header.cipher_name.as_bytes();
+    mode_of(name, name, header.cipher_mode.as_bytes())
 }
 
 // The offset in bytes of a sector of 512 bytes.
@@ -74,8 +75,12 @@ pub(crate) fn payload_row(alloc: Global, header: &Header1) -> Result<PayloadRow,
         iv_tweak: Some(0),
         segment_offset: Some(sector_offset(header.payload_offset)),
         segment_size: Some(Length::Dynamic),
+        segment_type: None,
+        segment_flags: None,
+        integrity: None,
+        flags: None,
         requirements: None,
-        is_cbc: uses_cbc(header),
+        mode: mode(header),
     })
 }
 
@@ -101,14 +106,17 @@ pub(crate) fn slot_row(
     slot: &StoredSlot,
     number: u8,
     kind: VerdictKind,
+    library_can_try: bool,
 ) -> Result<SlotRow, AllocError>
-    ensures { IfOk result (λ row. row ≡ slot1_row header.now slot.now number kind) }
+    ensures { IfOk result (λ row. row ≡
+        slot1_row header.now slot.now number kind library_can_try) }
 {
     Ok(SlotRow {
         number,
         state: Text::copied(alloc, kind_text(kind))?,
         reason: Text::optional(alloc, reason_text(kind))?,
         can_try: is_kind_usable(kind),
+        library_can_try,
         priority: Some(1),
         key_bytes: Some(u64::from(header.key_bytes)),
         kdf: Some(Text::copied(alloc, "pbkdf2")?),
@@ -125,7 +133,7 @@ pub(crate) fn slot_row(
         area_offset: Some(sector_offset(slot.offset)),
         area_size: Some(key_material_len(header.key_bytes, slot.stripes)),
         holds_key: !is_disabled(slot.state),
-        is_cbc: uses_cbc(header),
+        mode: mode(header),
     })
 }
 

@@ -4,18 +4,20 @@ ghost use Rattle.std.specs.Prelude.{◌≡◌, ◌<◌, ◌==◌, IfOk, IfSome, 
 ghost use Rattle.std.specs.Prelude.{option_map, position, ℕ};
 ghost use Rattle.hex.specs.Hex.{encode_lower};
 ghost use Rattle.luks_audit.specs.Rows2.{digest2_row, header2_row, in_segment0, key_size_at};
-ghost use Rattle.luks_audit.specs.Rows2.{key_size_in, length_in, mode_after_dash, names_cbc};
+ghost use Rattle.luks_audit.specs.Rows2.{flags_of, key_size_in, length_in, mode_after_dash, cipher_mode2};
+ghost use Rattle.luks_audit.specs.Rows2.{name_before_dash, named_mode, segment_flags_of};
 ghost use Rattle.luks_audit.specs.Rows2.{other_header_of, payload2_row, priority2_of};
-ghost use Rattle.luks_audit.specs.Rows2.{requirements_of, slot2_row, volume_key_size};
+ghost use Rattle.luks_audit.specs.Rows2.{requirements_of, slot2_row, token2_row, volume_key_size};
 ghost use Rattle.luks_report.specs.Dump2.{role_text};
 ghost use Rattle.luks2_json.specs.Member.{base64_member, decimal_member, in_member};
 ghost use Rattle.luks2_json.specs.Member.{integer_member, string_member};
 ghost use Rattle.serde_json.specs.Find.{get};
 ghost use Rattle.serde_json.specs.View.{view as data_of};
 
-use crate::cipher::{is_capi_cbc, is_cbc};
-use crate::rows::{DigestRow, HeaderRow, Length, PayloadRow, SlotRow};
+use crate::cipher::mode_of;
+use crate::rows::{CipherMode, DigestRow, HeaderRow, Length, PayloadRow, SlotRow, TokenRow};
 use crate::text::Text;
+use crate::tree::Tree;
 use crate::verdict::{is_kind_usable, kind_text, reason_text};
 use luks_header::header::{Header2, HeaderRole, PairFinding};
 use luks_verdict::rule::MAX_SLOTS;
@@ -148,6 +150,35 @@ fn segment_decimal(tree: &Value, name: &str) -> Option<u64>
     decimal_member(object_numbered(tree, "segments", 0)?, name)
 }
 
+// The type of the integrity tags of segment 0.
+fn integrity(tree: &Value) -> Option<&str>
+    ensures { option_map (λ t. t.now) result
+        ≡ in_segment0 (in_member (codes "integrity") (string_member (codes "type")))
+        (data_of tree.now) }
+{
+    nested_string(object_numbered(tree, "segments", 0)?, "integrity", "type")
+}
+
+// The flags of segment 0.
+fn segment_flags(alloc: Global, tree: &Value) -> Result<Option<Names>, AllocError>
+    ensures { IfOk result (λ names. names ≡ segment_flags_of (data_of tree.now)) }
+{
+    match object_numbered(tree, "segments", 0) {
+        Some(segment) => Ok(Some(strings_at(alloc, segment, "flags")?)),
+        None => Ok(None),
+    }
+}
+
+// The flags of the configuration.
+fn flags(alloc: Global, tree: &Value) -> Result<Option<Names>, AllocError>
+    ensures { IfOk result (λ names. names ≡ flags_of (data_of tree.now)) }
+{
+    match tree.get("config") {
+        Some(config) => Ok(Some(strings_at(alloc, config, "flags")?)),
+        None => Ok(None),
+    }
+}
+
 // The requirements of the configuration.
 fn config_requirements(tree: &Value) -> Option<&Value>
     ensures { option_map (λ value. data_of value.now) result
@@ -185,14 +216,32 @@ fn mode_after_dash(cipher: &[u8]) -> &[u8]
     }
 }
 
-// Whether a cipher is named that uses cipher block chaining.
-fn names_cbc(cipher: Option<&str>) -> bool
-    ensures { result ≡ names_cbc (option_map (λ t. t.now) cipher.entry) }
+// The name in a cipher's name: what precedes the first dash.
+fn name_before_dash(cipher: &[u8]) -> &[u8]
+    ensures { result.now ≡ name_before_dash cipher.now }
+{
+    match dash_in(cipher) {
+        Some(dash) => &cipher[..dash],
+        None => cipher,
+    }
+}
+
+// How the cipher of this name encrypts sectors.
+#[tactic(auto, unfolding(crate::specs::Rows2::cipher_mode2))]
+fn mode(cipher: Option<&str>) -> CipherMode
+    ensures { result ≡ cipher_mode2 (option_map (λ t. t.now) cipher.entry) }
 {
     match cipher {
-        Some(name) => is_cbc(mode_after_dash(name.as_bytes())) || is_capi_cbc(name.as_bytes()),
-        None => false,
+        Some(name) => named_mode(name.as_bytes()),
+        None => CipherMode::Other,
     }
+}
+
+// How this cipher encrypts sectors.
+fn named_mode(cipher: &[u8]) -> CipherMode
+    ensures { result ≡ named_mode cipher.now }
+{
+    mode_of(cipher, name_before_dash(cipher), mode_after_dash(cipher))
 }
 
 /// The payload.
@@ -200,7 +249,7 @@ fn names_cbc(cipher: Option<&str>) -> bool
 pub(crate) fn payload_row(alloc: Global, tree: &Value) -> Result<PayloadRow, AllocError>
     ensures { IfOk result (λ row. row ≡ payload2_row (data_of tree.now)) }
 {
-    let is_cbc = names_cbc(segment_string(tree, "encryption"));
+    let mode = mode(segment_string(tree, "encryption"));
     Ok(PayloadRow {
         cipher: Text::optional(alloc, segment_string(tree, "encryption"))?,
         key_bytes: volume_key_size(tree),
@@ -208,12 +257,16 @@ pub(crate) fn payload_row(alloc: Global, tree: &Value) -> Result<PayloadRow, All
         iv_tweak: segment_decimal(tree, "iv_tweak"),
         segment_offset: segment_decimal(tree, "offset"),
         segment_size: segment_size(tree),
+        segment_type: Text::optional(alloc, segment_string(tree, "type"))?,
+        segment_flags: segment_flags(alloc, tree)?,
+        integrity: Text::optional(alloc, integrity(tree))?,
+        flags: flags(alloc, tree)?,
         requirements: requirements(alloc, tree)?,
-        is_cbc,
+        mode,
     })
 }
 
-// ---- key slots and digests
+// ---- key slots, digests and tokens
 
 // The priority of a slot.
 #[tactic(auto, unfolding(crate::specs::Rows2::priority2_of))]
@@ -268,14 +321,17 @@ pub(crate) fn slot_row(
     slot: &Value,
     number: u8,
     kind: VerdictKind,
+    library_can_try: bool,
 ) -> Result<SlotRow, AllocError>
-    ensures { IfOk result (λ row. row ≡ slot2_row (data_of slot.now) number kind) }
+    ensures { IfOk result (λ row. row
+        ≡ slot2_row (data_of slot.now) number kind library_can_try) }
 {
     Ok(SlotRow {
         number,
         state: Text::copied(alloc, kind_text(kind))?,
         reason: Text::optional(alloc, reason_text(kind))?,
         can_try: is_kind_usable(kind),
+        library_can_try,
         priority: priority(slot),
         key_bytes: integer_member(slot, "key_size"),
         kdf: text_in(alloc, slot, "kdf", "type")?,
@@ -292,7 +348,7 @@ pub(crate) fn slot_row(
         area_offset: nested_decimal(slot, "area", "offset"),
         area_size: nested_decimal(slot, "area", "size"),
         holds_key: is_type(slot, "luks2"),
-        is_cbc: names_cbc(nested_string(slot, "area", "encryption")),
+        mode: mode(nested_string(slot, "area", "encryption")),
     })
 }
 
@@ -322,5 +378,18 @@ pub(crate) fn digest_row(alloc: Global, digest: &Value, number: u8) -> Result<Di
         bytes: digest_len(digest),
         keyslots: Some(strings_at(alloc, digest, "keyslots")?),
         segments: Some(strings_at(alloc, digest, "segments")?),
+    })
+}
+
+/// A token.
+#[tactic(auto, unfolding(crate::specs::Rows2::token2_row))]
+pub(crate) fn token_row(alloc: Global, token: &Value, number: u8) -> Result<TokenRow, AllocError>
+    ensures { IfOk result (λ row. row ≡ token2_row (data_of token.now) number) }
+{
+    Ok(TokenRow {
+        number,
+        kind: Text::optional(alloc, string_member(token, "type"))?,
+        keyslots: strings_at(alloc, token, "keyslots")?,
+        stored: Tree::stored(token)?,
     })
 }

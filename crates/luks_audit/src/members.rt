@@ -98,8 +98,8 @@ impl Object {
     }
 }
 
-// The texts as an array.
-fn text_array(alloc: Global, texts: &[String]) -> Result<Array, AllocError>
+/// The texts as an array.
+pub(crate) fn text_array(alloc: Global, texts: &[String]) -> Result<Array, AllocError>
     ensures { IfOk result (λ made. made ≡ map string (map string_bytes texts.now)) }
 {
     let mut made = Array::new(alloc);

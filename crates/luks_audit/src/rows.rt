@@ -2,6 +2,7 @@
 //! it in a form that is not the standard's.
 
 use crate::text::Text;
+use crate::tree::Tree;
 use luks2_json::list::Names;
 
 /// The length of a segment.
@@ -11,6 +12,21 @@ pub enum Length {
     Dynamic,
     /// It has this many bytes.
     Fixed(u64),
+}
+
+/// How a cipher encrypts sectors.
+#[derive(Clone, Copy)]
+pub enum CipherMode {
+    /// Not at all.
+    Null,
+    /// Block by block, in electronic codebook mode.
+    Ecb,
+    /// By cipher block chaining.
+    Cbc,
+    /// By XTS, with two keys for the cipher.
+    Xts,
+    /// In another mode, or one that is not known.
+    Other,
 }
 
 /// The binary header.
@@ -53,10 +69,18 @@ pub struct PayloadRow {
     pub segment_offset: Option<u64>,
     /// The length of the payload.
     pub segment_size: Option<Length>,
+    /// The type of the segment.
+    pub segment_type: Option<Text>,
+    /// The flags of the segment.
+    pub segment_flags: Option<Names>,
+    /// The type of integrity tags.
+    pub integrity: Option<Text>,
+    /// The flags with which the volume is activated.
+    pub flags: Option<Names>,
     /// What a program that reads the volume must support.
     pub requirements: Option<Names>,
-    /// Whether sectors are encrypted by cipher block chaining. This is not listed.
-    pub is_cbc: bool,
+    /// How the cipher encrypts sectors. This is not listed.
+    pub mode: CipherMode,
 }
 
 /// A key slot.
@@ -70,6 +94,8 @@ pub struct SlotRow {
     pub reason: Option<Text>,
     /// Whether luksrd can try it.
     pub can_try: bool,
+    /// Whether the library can try it, by its default limits.
+    pub library_can_try: bool,
     /// Its priority.
     pub priority: Option<u64>,
     /// The length of the volume key in bytes.
@@ -102,8 +128,8 @@ pub struct SlotRow {
     pub area_size: Option<u64>,
     /// Whether it can hold a key. This is not listed.
     pub holds_key: bool,
-    /// Whether the key material is encrypted by cipher block chaining. This is not listed.
-    pub is_cbc: bool,
+    /// How the cipher encrypts the key material. This is not listed.
+    pub mode: CipherMode,
 }
 
 /// A digest.
@@ -127,4 +153,17 @@ pub struct DigestRow {
     pub keyslots: Option<Names>,
     /// The segments that it belongs to.
     pub segments: Option<Names>,
+}
+
+/// A token of LUKS2.
+#[derive(Drop)]
+pub struct TokenRow {
+    /// Its number.
+    pub number: u8,
+    /// Its type.
+    pub kind: Option<Text>,
+    /// The key slots that it is for.
+    pub keyslots: Names,
+    /// The whole object, or null if it has a float.
+    pub stored: Tree,
 }

@@ -3,17 +3,25 @@
 ghost use Rattle.std.specs.Prelude.{◌≡◌, IfOk, OnOk, map};
 ghost use Rattle.luks_audit.specs.Table.{area_fields, binary_fields, digest_value, judged_fields};
 ghost use Rattle.luks_audit.specs.Table.{key_fields, list_fields, payload_fields, place_fields};
-ghost use Rattle.luks_audit.specs.Table.{slot_value, token_value, verdict_fields, volume_fields};
+ghost use Rattle.luks_audit.specs.Table.{program_fields, segment_fields, slot_value, token_value};
+ghost use Rattle.luks_audit.specs.Table.{verdict_fields, volume_fields};
 ghost use Rattle.luks_audit.specs.Tree.{with_fields};
-ghost use Rattle.serde_json.specs.View.{view as data_of};
 
-use crate::rows::{DigestRow, HeaderRow, PayloadRow, SlotRow};
-use crate::text::Text;
+use crate::members::text_array;
+use crate::program::{POLICY, VERSION};
+use crate::rows::{DigestRow, HeaderRow, PayloadRow, SlotRow, TokenRow};
+use crate::token::slot_tokens;
 use crate::tree::{Array, Object, Tree};
-use luks2_json::list::strings_at;
-use luks2_json::member::string_member;
-use serde_json::Value;
 use std::alloc::{AllocError, Global};
+
+/// Adds which program printed the line, and by which policy.
+#[tactic(auto, unfolding(crate::specs::Table::program_fields))]
+pub(crate) fn push_program(alloc: Global, fields: &mut Object) -> Result<(), AllocError>
+    ensures { OnOk result (fields.new ≡ with_fields program_fields fields.old) }
+{
+    fields.push_text(alloc, "program_version", VERSION)?;
+    fields.push_number(alloc, "policy", POLICY)
+}
 
 /// Adds where the header was found.
 #[tactic(auto, unfolding(crate::specs::Table::place_fields))]
@@ -61,7 +69,7 @@ pub(crate) fn push_binary(
     fields.push_optional_text(alloc, "salt", &row.salt)
 }
 
-/// Adds how the payload is encrypted, where it is, and what the volume requires.
+/// Adds how the payload is encrypted, and where it is.
 #[tactic(auto, unfolding(crate::specs::Table::payload_fields))]
 pub(crate) fn push_payload(
     alloc: Global,
@@ -75,7 +83,22 @@ pub(crate) fn push_payload(
     fields.push_optional_number(alloc, "sector_size", row.sector_size)?;
     fields.push_optional_number(alloc, "iv_tweak", row.iv_tweak)?;
     fields.push_optional_number(alloc, "segment_offset", row.segment_offset)?;
-    fields.push_length(alloc, "segment_size", row.segment_size)?;
+    fields.push_length(alloc, "segment_size", row.segment_size)
+}
+
+/// Adds what the segment is, and what the volume requires.
+#[tactic(auto, unfolding(crate::specs::Table::segment_fields))]
+pub(crate) fn push_segment(
+    alloc: Global,
+    fields: &mut Object,
+    row: &PayloadRow,
+) -> Result<(), AllocError>
+    ensures { OnOk result (fields.new ≡ with_fields (segment_fields row.now) fields.old) }
+{
+    fields.push_optional_text(alloc, "segment_type", &row.segment_type)?;
+    fields.push_names(alloc, "segment_flags", &row.segment_flags)?;
+    fields.push_optional_text(alloc, "integrity", &row.integrity)?;
+    fields.push_names(alloc, "flags", &row.flags)?;
     fields.push_names(alloc, "requirements", &row.requirements)
 }
 
@@ -87,7 +110,8 @@ fn push_verdict(alloc: Global, fields: &mut Object, row: &SlotRow) -> Result<(),
     fields.push_number(alloc, "number", u64::from(row.number))?;
     fields.push_text(alloc, "state", row.state.as_str())?;
     fields.push_optional_text(alloc, "reason", &row.reason)?;
-    fields.push(alloc, "can_try", Tree::boolean(row.can_try))
+    fields.push(alloc, "can_try", Tree::boolean(row.can_try))?;
+    fields.push(alloc, "library_can_try", Tree::boolean(row.library_can_try))
 }
 
 // Adds how the key of a slot is derived.
@@ -119,21 +143,23 @@ fn push_area(alloc: Global, fields: &mut Object, row: &SlotRow) -> Result<(), Al
     fields.push_optional_number(alloc, "area_size", row.area_size)
 }
 
-/// The object of a key slot.
+// The object of a key slot, with those of the tokens that are for it.
 #[tactic(auto, unfolding(crate::specs::Table::slot_value))]
-pub(crate) fn slot_tree(alloc: Global, row: &SlotRow) -> Result<Tree, AllocError>
-    ensures { IfOk result (λ tree. tree ≡ slot_value row.now) }
+fn slot_tree(alloc: Global, tokens: &[TokenRow], row: &SlotRow) -> Result<Tree, AllocError>
+    ensures { IfOk result (λ tree. tree ≡ slot_value tokens.now row.now) }
 {
     let mut fields = Object::new(alloc);
     push_verdict(alloc, &mut fields, row)?;
     push_key(alloc, &mut fields, row)?;
     push_area(alloc, &mut fields, row)?;
+    let tokens = slot_tokens(alloc, row.number, tokens)?;
+    fields.push_array(alloc, "tokens", tokens)?;
     Ok(fields.into_tree())
 }
 
-/// The object of a digest.
+// The object of a digest.
 #[tactic(auto, unfolding(crate::specs::Table::digest_value))]
-pub(crate) fn digest_tree(alloc: Global, row: &DigestRow) -> Result<Tree, AllocError>
+fn digest_tree(alloc: Global, row: &DigestRow) -> Result<Tree, AllocError>
     ensures { IfOk result (λ tree. tree ≡ digest_value row.now) }
 {
     let mut fields = Object::new(alloc);
@@ -149,28 +175,28 @@ pub(crate) fn digest_tree(alloc: Global, row: &DigestRow) -> Result<Tree, AllocE
     Ok(fields.into_tree())
 }
 
-/// The object of a token of LUKS2.
+// The object of a token of LUKS2.
 #[tactic(auto, unfolding(crate::specs::Table::token_value))]
-pub(crate) fn token_tree(alloc: Global, number: u8, token: &Value) -> Result<Tree, AllocError>
-    ensures { IfOk result (λ tree. tree ≡ token_value number (data_of token.now)) }
+fn token_tree(alloc: Global, row: &TokenRow) -> Result<Tree, AllocError>
+    ensures { IfOk result (λ tree. tree ≡ token_value row.now) }
 {
-    let kind = Text::optional(alloc, string_member(token, "type"))?;
-    let keyslots = Some(strings_at(alloc, token, "keyslots")?);
+    let keyslots = text_array(alloc, row.keyslots.as_slice())?;
+    let stored = row.stored.copy()?;
     let mut fields = Object::new(alloc);
-    fields.push_number(alloc, "number", u64::from(number))?;
-    fields.push_optional_text(alloc, "type", &kind)?;
-    fields.push_names(alloc, "keyslots", &keyslots)?;
-    fields.push(alloc, "stored", Tree::stored(token)?)?;
+    fields.push_number(alloc, "number", u64::from(row.number))?;
+    fields.push_optional_text(alloc, "type", &row.kind)?;
+    fields.push_array(alloc, "keyslots", keyslots)?;
+    fields.push(alloc, "stored", stored)?;
     Ok(fields.into_tree())
 }
 
 // The objects of key slots.
-fn slot_array(alloc: Global, rows: &[SlotRow]) -> Result<Array, AllocError>
-    ensures { IfOk result (λ slots. slots ≡ map slot_value rows.now) }
+fn slot_array(alloc: Global, tokens: &[TokenRow], rows: &[SlotRow]) -> Result<Array, AllocError>
+    ensures { IfOk result (λ slots. slots ≡ map (slot_value tokens.now) rows.now) }
 {
     let mut slots = Array::new(alloc);
     for row in rows {
-        slots.push(slot_tree(alloc, row)?)?;
+        slots.push(slot_tree(alloc, tokens, row)?)?;
     }
     Ok(slots)
 }
@@ -186,6 +212,17 @@ fn digest_array(alloc: Global, rows: &[DigestRow]) -> Result<Array, AllocError>
     Ok(digests)
 }
 
+// The objects of tokens.
+fn token_array(alloc: Global, rows: &[TokenRow]) -> Result<Array, AllocError>
+    ensures { IfOk result (λ tokens. tokens ≡ map token_value rows.now) }
+{
+    let mut tokens = Array::new(alloc);
+    for row in rows {
+        tokens.push(token_tree(alloc, row)?)?;
+    }
+    Ok(tokens)
+}
+
 /// Adds the key slots, the digests and the tokens.
 #[tactic(auto, unfolding(crate::specs::Table::list_fields))]
 pub(crate) fn push_lists(
@@ -193,29 +230,32 @@ pub(crate) fn push_lists(
     fields: &mut Object,
     slots: &[SlotRow],
     digests: &[DigestRow],
-    tokens: Array,
+    tokens: &[TokenRow],
 ) -> Result<(), AllocError>
     ensures { OnOk result (fields.new ≡ with_fields
-        (list_fields (map slot_value slots.now) (map digest_value digests.now) tokens)
-        fields.old) }
+        (list_fields slots.now digests.now tokens.now) fields.old) }
 {
-    let slots = slot_array(alloc, slots)?;
+    let slots = slot_array(alloc, tokens, slots)?;
     fields.push_array(alloc, "slots", slots)?;
     let digests = digest_array(alloc, digests)?;
     fields.push_array(alloc, "digests", digests)?;
+    let tokens = token_array(alloc, tokens)?;
     fields.push_array(alloc, "tokens", tokens)
 }
 
-/// Adds what is wrong and what is weak.
+/// Adds what is wrong, what luksrd cannot read, and what is weak.
 #[tactic(auto, unfolding(crate::specs::Table::judged_fields))]
 pub(crate) fn push_judged(
     alloc: Global,
     fields: &mut Object,
     findings: Array,
+    unsupported: Array,
     weak: Array,
 ) -> Result<(), AllocError>
-    ensures { OnOk result (fields.new ≡ with_fields (judged_fields findings weak) fields.old) }
+    ensures { OnOk result
+        (fields.new ≡ with_fields (judged_fields findings unsupported weak) fields.old) }
 {
     fields.push_array(alloc, "findings", findings)?;
+    fields.push_array(alloc, "unsupported", unsupported)?;
     fields.push_array(alloc, "weak", weak)
 }

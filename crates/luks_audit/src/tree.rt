@@ -110,6 +110,14 @@ impl Tree {
         Ok(Tree { value })
     }
 
+    /// A copy.
+    pub fn copy(&self) -> Result<Tree, AllocError>
+        ensures { IfOk result (λ tree. tree ≡ self.now) }
+    {
+        let value = self.value.clone()?;
+        Ok(Tree { value })
+    }
+
     /// The value.
     pub(crate) fn value(&self) -> &Value
         ensures value { data_of result.now ≡ self.now }

@@ -1,267 +1,291 @@
 //! What is weak about a header.
 
-ghost use Rattle.std.specs.Prelude.{◌≡◌, ◌++◌, IfOk, OnOk, flat_map, string_bytes};
-ghost use Rattle.luks_audit.specs.Weakness.{digest_weaknesses, found_if, has_few_iterations};
-ghost use Rattle.luks_audit.specs.Weakness.{has_little_memory, has_short_key, hash_in, is_named};
-ghost use Rattle.luks_audit.specs.Weakness.{is_sha1, is_short, key_weaknesses, least_iterations};
-ghost use Rattle.luks_audit.specs.Weakness.{owasp_iterations, place_of, segment_weaknesses};
-ghost use Rattle.luks_audit.specs.Weakness.{slot_weaknesses, weak_list, weakness_name};
-ghost use Rattle.luks_audit.specs.Weakness.{weakness_of};
+ghost use Rattle.std.specs.Prelude.{◌≡◌, ◌++◌, IfOk, OnOk, flat_map, option_map};
+ghost use Rattle.luks_audit.specs.Weakness.{any_fails, area_weaknesses, by_limit, by_name};
+ghost use Rattle.luks_audit.specs.Weakness.{cipher_weaknesses, cost_severity, cost_weaknesses};
+ghost use Rattle.luks_audit.specs.Weakness.{digest_weaknesses, fails, found_if, hash_in};
+ghost use Rattle.luks_audit.specs.Weakness.{key_weakness, least_iterations, segment_weaknesses};
+ghost use Rattle.luks_audit.specs.Weakness.{sha1_of, slot_weaknesses, weak_list};
 
-use crate::rows::{DigestRow, PayloadRow, SlotRow};
+use crate::rows::{CipherMode, DigestRow, PayloadRow, SlotRow, TokenRow};
+use crate::rule::{
+    LEAST_DIGEST_ITERATIONS, LEAST_KEY_LEN, LEAST_MEMORY, has_few_iterations, has_few_passes,
+    has_little_memory, hash_in, is_known_short, is_short, least_iterations, least_passes,
+    names_sha1, own_key_len,
+};
 use crate::text::Text;
-use crate::tree::{Array, Object, Tree};
-use luks_kdf::Hash;
+use crate::token::has_random_key;
+use crate::weak_row::{Part, Severity, WeakRow, Weakness};
 use std::alloc::{AllocError, Global};
 
-/// A key of this many bytes or fewer is weak: AES with a key of 128 bits, or less.
-const SHORT_KEY_LEN: u64 = 16;
-
-/// The least memory of Argon2 in KiB that is not weak: 64 MiB.
-const LEAST_MEMORY: u64 = 65_536;
-
-/// The least number of iterations of a digest that is not weak.
-const LEAST_DIGEST_ITERATIONS: u64 = 1000;
-
-/// What is weak about a part of a header.
-#[derive(Clone, Copy)]
-pub enum Weakness {
-    /// A key slot has fewer iterations of PBKDF2 than are requested, or than OWASP recommends.
-    FewIterations,
-    /// A hash function is SHA-1.
-    BrokenHash,
-    /// Sectors are encrypted in CBC mode.
-    CbcMode,
-    /// A key has 16 bytes or fewer.
-    ShortKey,
-    /// A key slot uses Argon2 with less than 64 MiB of memory.
-    LittleMemory,
-    /// A digest has fewer than 1,000 iterations.
-    FewDigestIterations,
-}
-
-impl Weakness {
-    /// The name, as it is printed.
-    pub fn name(self) -> &'static str
-        ensures { result.now ≡ weakness_name self }
-    {
-        match self {
-            Weakness::FewIterations => "iterations",
-            Weakness::BrokenHash => "sha1",
-            Weakness::CbcMode => "cbc",
-            Weakness::ShortKey => "short-key",
-            Weakness::LittleMemory => "argon2-memory",
-            Weakness::FewDigestIterations => "digest-iterations",
-        }
-    }
-}
-
-/// The least number of iterations of PBKDF2 with this hash function (OWASP, Password Storage Cheat
-/// Sheet, 2023).
-fn owasp_iterations(hash: Option<Hash>) -> u64
-    ensures { result ≡ owasp_iterations hash }
+// A weakness by a number, which is below its limit.
+#[tactic(auto, unfolding(crate::specs::Weakness::by_limit))]
+fn by_limit(
+    weakness: Weakness,
+    part: Part,
+    severity: Severity,
+    number: Option<u64>,
+    limit: u64,
+) -> WeakRow
+    ensures { result ≡ by_limit weakness part severity number limit }
 {
-    match hash {
-        Some(Hash::Sha512 | Hash::Sha384) => 210_000,
-        Some(Hash::Sha256 | Hash::Sha224) => 600_000,
-        Some(Hash::Sha1) | None => 1_300_000,
+    WeakRow {
+        weakness,
+        part,
+        text: None,
+        number,
+        limit: Some(limit),
+        severity,
     }
 }
 
-// The least number of iterations: the requested one, or OWASP's.
-fn least_iterations(minimum: Option<u32>, hash: Option<Hash>) -> u64
-    ensures { result ≡ least_iterations minimum hash }
-{
-    match minimum {
-        Some(minimum) => u64::from(minimum),
-        None => owasp_iterations(hash),
-    }
-}
-
-// Whether the text is there, and is the expected one.
-fn is_named(text: &Option<Text>, expected: &str) -> bool
-    ensures { result ≡ is_named expected.now text.now }
+// A copy of the text, if there is one.
+fn copied(alloc: Global, text: &Option<Text>) -> Result<Option<Text>, AllocError>
+    ensures { IfOk result (λ made. made ≡ text.now) }
 {
     match text {
-        Some(text) => expected == text.as_str(),
-        None => false,
+        Some(text) => Ok(Some(Text::copied(alloc, text.as_str())?)),
+        None => Ok(None),
     }
 }
 
-// The hash function that the text names, if it is known.
-fn hash_in(text: &Option<Text>) -> Option<Hash>
-    ensures { result ≡ hash_in text.now }
+// A weakness by the name of a cipher or a hash function.
+#[tactic(auto, unfolding(crate::specs::Weakness::by_name))]
+fn by_name(
+    alloc: Global,
+    weakness: Weakness,
+    part: Part,
+    severity: Severity,
+    text: &Option<Text>,
+) -> Result<WeakRow, AllocError>
+    ensures { IfOk result (λ row. row ≡ by_name weakness part severity text.now) }
 {
-    match text {
-        Some(text) => Hash::from_name(text.as_str()),
-        None => None,
-    }
-}
-
-// Whether the hash function is SHA-1.
-fn is_sha1(hash: Option<Hash>) -> bool
-    ensures { result ≡ is_sha1 hash }
-{
-    matches!(hash, Some(Hash::Sha1))
-}
-
-// A part of a header with its number.
-fn place(alloc: Global, part: &str, number: u8) -> Result<String, AllocError>
-    ensures { IfOk result (λ place. string_bytes place ≡ place_of part.now number) }
-{
-    let mut place = String::from_str(alloc, part)?;
-    write!(place, " {number}")?;
-    Ok(place)
-}
-
-// A weakness of this part of the header.
-#[tactic(auto, unfolding(crate::specs::Weakness::weakness_of))]
-fn weakness_tree(alloc: Global, place: &str, weakness: Weakness) -> Result<Tree, AllocError>
-    ensures { IfOk result (λ tree. tree ≡ weakness_of place.now weakness) }
-{
-    let mut fields = Object::new(alloc);
-    fields.push_text(alloc, "name", weakness.name())?;
-    fields.push_text(alloc, "place", place)?;
-    Ok(fields.into_tree())
+    Ok(WeakRow {
+        weakness,
+        part,
+        text: copied(alloc, text)?,
+        number: None,
+        limit: None,
+        severity,
+    })
 }
 
 // Adds a weakness, if the test holds.
-#[tactic(auto, unfolding(crate::specs::Weakness::found_if))]
-fn push_if(
-    alloc: Global,
-    weak: &mut Array,
-    holds: bool,
-    place: &str,
-    weakness: Weakness,
-) -> Result<(), AllocError>
-    ensures { OnOk result (weak.new ≡ weak.old ++ found_if holds place.now weakness) }
+fn push_if(weak: &mut Vec<WeakRow>, holds: bool, row: WeakRow) -> Result<(), AllocError>
+    ensures { OnOk result (weak.new.items ≡ weak.old.items ++ found_if holds row) }
 {
     if holds {
-        weak.push(weakness_tree(alloc, place, weakness)?)?;
+        weak.push(row)?;
     }
     Ok(())
 }
 
-// Whether PBKDF2 has too few iterations.
-fn has_few_iterations(minimum: Option<u32>, slot: &SlotRow) -> bool
-    ensures { result ≡ has_few_iterations minimum slot.now }
+// Adds that a hash function is SHA-1, if it is.
+fn push_hash_if(
+    alloc: Global,
+    weak: &mut Vec<WeakRow>,
+    holds: bool,
+    part: Part,
+    text: &Option<Text>,
+) -> Result<(), AllocError>
+    ensures { OnOk result (weak.new.items ≡ weak.old.items
+        ++ found_if holds (by_name Weakness.BrokenHash part Severity.Low text.now)) }
+{
+    if holds {
+        let row = by_name(alloc, Weakness::BrokenHash, part, Severity::Low, text)?;
+        weak.push(row)?;
+    }
+    Ok(())
+}
+
+// Adds what is weak about a cipher's mode.
+#[tactic(auto, unfolding(crate::specs::Weakness::cipher_weaknesses))]
+fn push_cipher(
+    alloc: Global,
+    weak: &mut Vec<WeakRow>,
+    part: Part,
+    mode: CipherMode,
+    cipher: &Option<Text>,
+) -> Result<(), AllocError>
+    ensures { OnOk result
+        (weak.new.items ≡ weak.old.items ++ cipher_weaknesses part mode cipher.now) }
+{
+    let row = match mode {
+        CipherMode::Null => by_name(alloc, Weakness::NullCipher, part, Severity::High, cipher)?,
+        CipherMode::Ecb => by_name(alloc, Weakness::EcbMode, part, Severity::High, cipher)?,
+        CipherMode::Cbc => by_name(alloc, Weakness::CbcMode, part, Severity::Low, cipher)?,
+        CipherMode::Xts | CipherMode::Other => return Ok(()),
+    };
+    Ok(weak.push(row)?)
+}
+
+// That the cipher's own key is short.
+#[tactic(auto, unfolding(crate::specs::Weakness::key_weakness))]
+fn key_weakness(part: Part, mode: CipherMode, bytes: Option<u64>) -> WeakRow
+    ensures { result ≡ key_weakness part mode bytes }
+{
+    let len = match bytes {
+        Some(bytes) => Some(own_key_len(mode, bytes)),
+        None => None,
+    };
+    by_limit(Weakness::ShortKey, part, Severity::Low, len, LEAST_KEY_LEN)
+}
+
+// How severe the cost of deriving a slot's key is.
+fn cost_severity(slot: &SlotRow, tokens: &[TokenRow]) -> Severity
+    ensures { result ≡ cost_severity slot.now tokens.now }
+{
+    if has_random_key(slot.number, tokens) {
+        Severity::Low
+    } else {
+        Severity::High
+    }
+}
+
+// That a slot has few iterations.
+fn iterations_row(minimum: Option<u32>, severity: Severity, slot: &SlotRow) -> WeakRow
+    ensures { result ≡ by_limit Weakness.FewIterations (Part.Slot slot.now.number) severity
+        slot.now.iterations (least_iterations minimum (hash_in slot.now.hash)) }
 {
     let least = least_iterations(minimum, hash_in(&slot.hash));
-    is_named(&slot.kdf, "pbkdf2") && slot.iterations.unwrap_or(0) < least
+    by_limit(
+        Weakness::FewIterations,
+        Part::Slot(slot.number),
+        severity,
+        slot.iterations,
+        least,
+    )
 }
 
-// Whether Argon2 has too little memory.
-fn has_little_memory(slot: &SlotRow) -> bool
-    ensures { result ≡ has_little_memory slot.now }
-{
-    (is_named(&slot.kdf, "argon2i") || is_named(&slot.kdf, "argon2id"))
-        && slot.memory.unwrap_or(0) < LEAST_MEMORY
-}
-
-// Whether the volume key, or that of the key material, is short.
-fn has_short_key(slot: &SlotRow) -> bool
-    ensures { result ≡ has_short_key slot.now }
-{
-    slot.key_bytes.unwrap_or(0) <= SHORT_KEY_LEN
-        || slot.area_key_bytes.unwrap_or(0) <= SHORT_KEY_LEN
-}
-
-// Adds the weaknesses of a key slot that holds a key.
-#[tactic(auto, unfolding(crate::specs::Weakness::key_weaknesses))]
-fn push_key(
-    alloc: Global,
-    weak: &mut Array,
+// Adds what is weak about how a slot derives its key.
+#[tactic(auto, unfolding(crate::specs::Weakness::cost_weaknesses))]
+fn push_cost(
+    weak: &mut Vec<WeakRow>,
     minimum: Option<u32>,
-    place: &str,
+    severity: Severity,
     slot: &SlotRow,
 ) -> Result<(), AllocError>
-    ensures { OnOk result (weak.new ≡ weak.old ++ key_weaknesses minimum place.now slot.now) }
+    ensures { OnOk result
+        (weak.new.items ≡ weak.old.items ++ cost_weaknesses minimum severity slot.now) }
 {
-    let few = has_few_iterations(minimum, slot);
-    let broken = is_sha1(hash_in(&slot.hash)) || is_sha1(hash_in(&slot.af_hash));
-    let short = has_short_key(slot);
-    let little = has_little_memory(slot);
-    push_if(alloc, weak, few, place, Weakness::FewIterations)?;
-    push_if(alloc, weak, broken, place, Weakness::BrokenHash)?;
-    push_if(alloc, weak, slot.is_cbc, place, Weakness::CbcMode)?;
-    push_if(alloc, weak, short, place, Weakness::ShortKey)?;
-    push_if(alloc, weak, little, place, Weakness::LittleMemory)
+    let part = Part::Slot(slot.number);
+    let iterations = iterations_row(minimum, severity, slot);
+    let memory = by_limit(
+        Weakness::LittleMemory,
+        part,
+        severity,
+        slot.memory,
+        LEAST_MEMORY,
+    );
+    let least = least_passes(slot.memory.unwrap_or(0));
+    let passes = by_limit(Weakness::FewPasses, part, Severity::Low, slot.time, least);
+    push_if(weak, has_few_iterations(minimum, slot), iterations)?;
+    push_if(weak, has_little_memory(slot), memory)?;
+    push_if(weak, has_few_passes(slot), passes)
+}
+
+// The hash function of a slot that is SHA-1.
+fn sha1_of(slot: &SlotRow) -> &Option<Text>
+    ensures { result.now ≡ sha1_of slot.now }
+{
+    if names_sha1(&slot.hash) {
+        &slot.hash
+    } else {
+        &slot.af_hash
+    }
+}
+
+// Adds what is weak about a slot's hash functions and the encryption of its key material.
+#[tactic(auto, unfolding(crate::specs::Weakness::area_weaknesses))]
+fn push_area(alloc: Global, weak: &mut Vec<WeakRow>, slot: &SlotRow) -> Result<(), AllocError>
+    ensures { OnOk result (weak.new.items ≡ weak.old.items ++ area_weaknesses slot.now) }
+{
+    let part = Part::Slot(slot.number);
+    let broken = names_sha1(&slot.hash) || names_sha1(&slot.af_hash);
+    let short = is_short(slot.mode, slot.area_key_bytes.unwrap_or(0));
+    let key = key_weakness(part, slot.mode, slot.area_key_bytes);
+    push_hash_if(alloc, weak, broken, part, sha1_of(slot))?;
+    push_cipher(alloc, weak, part, slot.mode, &slot.area_cipher)?;
+    push_if(weak, short, key)
 }
 
 // Adds the weaknesses of a key slot.
 #[tactic(auto, unfolding(crate::specs::Weakness::slot_weaknesses))]
 fn push_slot(
     alloc: Global,
-    weak: &mut Array,
+    weak: &mut Vec<WeakRow>,
     minimum: Option<u32>,
+    tokens: &[TokenRow],
     slot: &SlotRow,
 ) -> Result<(), AllocError>
-    ensures { OnOk result (weak.new ≡ weak.old ++ slot_weaknesses minimum slot.now) }
+    ensures { OnOk result
+        (weak.new.items ≡ weak.old.items ++ slot_weaknesses minimum tokens.now slot.now) }
 {
     if !slot.holds_key {
         return Ok(());
     }
-    let place = place(alloc, "slot", slot.number)?;
-    push_key(alloc, weak, minimum, place.as_str(), slot)
+    push_cost(weak, minimum, cost_severity(slot, tokens), slot)?;
+    push_area(alloc, weak, slot)
 }
 
 // Adds the weaknesses of a digest.
 #[tactic(auto, unfolding(crate::specs::Weakness::digest_weaknesses))]
-fn push_digest(alloc: Global, weak: &mut Array, digest: &DigestRow) -> Result<(), AllocError>
-    ensures { OnOk result (weak.new ≡ weak.old ++ digest_weaknesses digest.now) }
+fn push_digest(alloc: Global, weak: &mut Vec<WeakRow>, digest: &DigestRow) -> Result<(), AllocError>
+    ensures { OnOk result (weak.new.items ≡ weak.old.items ++ digest_weaknesses digest.now) }
 {
-    let place = place(alloc, "digest", digest.number)?;
-    let broken = is_sha1(hash_in(&digest.hash));
+    let part = Part::Digest(digest.number);
     let few = digest.iterations.unwrap_or(0) < LEAST_DIGEST_ITERATIONS;
-    push_if(alloc, weak, broken, place.as_str(), Weakness::BrokenHash)?;
-    push_if(
-        alloc,
-        weak,
-        few,
-        place.as_str(),
+    let row = by_limit(
         Weakness::FewDigestIterations,
-    )
-}
-
-// Whether the volume key is short, if its length is known.
-fn is_short(key_bytes: Option<u64>) -> bool
-    ensures { result ≡ is_short key_bytes }
-{
-    match key_bytes {
-        Some(bytes) => bytes <= SHORT_KEY_LEN,
-        None => false,
-    }
+        part,
+        Severity::Low,
+        digest.iterations,
+        LEAST_DIGEST_ITERATIONS,
+    );
+    push_hash_if(alloc, weak, names_sha1(&digest.hash), part, &digest.hash)?;
+    push_if(weak, few, row)
 }
 
 // Adds the weaknesses of the segment.
 #[tactic(auto, unfolding(crate::specs::Weakness::segment_weaknesses))]
-fn push_segment(alloc: Global, weak: &mut Array, payload: &PayloadRow) -> Result<(), AllocError>
-    ensures { OnOk result (weak.new ≡ weak.old ++ segment_weaknesses payload.now) }
+fn push_segment(
+    alloc: Global,
+    weak: &mut Vec<WeakRow>,
+    payload: &PayloadRow,
+) -> Result<(), AllocError>
+    ensures { OnOk result (weak.new.items ≡ weak.old.items ++ segment_weaknesses payload.now) }
 {
-    let short = is_short(payload.key_bytes);
-    push_if(alloc, weak, payload.is_cbc, "segment", Weakness::CbcMode)?;
-    push_if(alloc, weak, short, "segment", Weakness::ShortKey)
+    let short = is_known_short(payload.mode, payload.key_bytes);
+    let key = key_weakness(Part::Segment, payload.mode, payload.key_bytes);
+    push_cipher(alloc, weak, Part::Segment, payload.mode, &payload.cipher)?;
+    push_if(weak, short, key)
 }
 
 // Adds the weaknesses of the key slots.
 fn push_slots(
     alloc: Global,
-    weak: &mut Array,
+    weak: &mut Vec<WeakRow>,
     minimum: Option<u32>,
+    tokens: &[TokenRow],
     slots: &[SlotRow],
 ) -> Result<(), AllocError>
-    ensures { OnOk result
-        (weak.new ≡ weak.old ++ flat_map (slot_weaknesses minimum) slots.now) }
+    ensures { OnOk result (weak.new.items ≡ weak.old.items
+        ++ flat_map (slot_weaknesses minimum tokens.now) slots.now) }
 {
     for slot in slots {
-        push_slot(alloc, weak, minimum, slot)?;
+        push_slot(alloc, weak, minimum, tokens, slot)?;
     }
     Ok(())
 }
 
 // Adds the weaknesses of the digests.
-fn push_digests(alloc: Global, weak: &mut Array, digests: &[DigestRow]) -> Result<(), AllocError>
-    ensures { OnOk result (weak.new ≡ weak.old ++ flat_map digest_weaknesses digests.now) }
+fn push_digests(
+    alloc: Global,
+    weak: &mut Vec<WeakRow>,
+    digests: &[DigestRow],
+) -> Result<(), AllocError>
+    ensures { OnOk result
+        (weak.new.items ≡ weak.old.items ++ flat_map digest_weaknesses digests.now) }
 {
     for digest in digests {
         push_digest(alloc, weak, digest)?;
@@ -271,19 +295,40 @@ fn push_digests(alloc: Global, weak: &mut Array, digests: &[DigestRow]) -> Resul
 
 /// Everything that is weak. If no minimum of iterations is requested, OWASP's applies.
 #[tactic(auto, unfolding(crate::specs::Weakness::weak_list))]
-pub fn weak_array(
+pub fn weak_list(
     alloc: Global,
     minimum: Option<u32>,
     payload: &PayloadRow,
     slots: &[SlotRow],
     digests: &[DigestRow],
-) -> Result<Array, AllocError>
-    ensures { IfOk result
-        (λ weak. weak ≡ weak_list minimum payload.now slots.now digests.now) }
+    tokens: &[TokenRow],
+) -> Result<Vec<WeakRow>, AllocError>
+    ensures { IfOk result (λ weak.
+        weak.items ≡ weak_list minimum payload.now slots.now digests.now tokens.now) }
 {
-    let mut weak = Array::new(alloc);
+    let mut weak = Vec::new(alloc);
     push_segment(alloc, &mut weak, payload)?;
-    push_slots(alloc, &mut weak, minimum, slots)?;
+    push_slots(alloc, &mut weak, minimum, tokens, slots)?;
     push_digests(alloc, &mut weak, digests)?;
     Ok(weak)
+}
+
+// Whether a weakness of this severity makes a header flawed.
+fn fails(least: Severity, severity: Severity) -> bool
+    ensures { result ≡ fails least severity }
+{
+    !matches!((least, severity), (Severity::High, Severity::Low))
+}
+
+/// Whether one of the weaknesses is at least as severe as this.
+#[tactic(auto, unfolding(crate::specs::Weakness::any_fails))]
+pub(crate) fn any_fails(least: Severity, weak: &[WeakRow]) -> bool
+    ensures { result ≡ any_fails least weak.now }
+{
+    for index in 0..weak.len() {
+        if fails(least, weak[index].severity) {
+            return true;
+        }
+    }
+    false
 }

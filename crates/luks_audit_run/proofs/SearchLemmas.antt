@@ -63,7 +63,7 @@ module _ (policy : Policy) (file : List ℕ) (known left left' : Option (List �
         → IsIn bytes search' left' × FindsNext bytes search.sector search'.sector (Ok (Some place)))
         → Appended now after (header_line policy file place.offset place.header)
         → Searches policy file known left' before after
-        (Some (graver_of found (header_state policy.minimum place.header))) search'
+        (Some (graver_of found (header_state policy place.header))) search'
     searches_more place next line = record {
       text = so_far.text ++ header_line policy file place.offset place.header;
       written = appended-more before now after so_far.text (header_line policy file place.offset place.header)

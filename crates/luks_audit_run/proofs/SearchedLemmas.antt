@@ -88,7 +88,7 @@ module _ (policy : Policy) (file image : List ℕ) where
       → header_at image place.offset ≡ Ok place.header
       → places_below image search'.sector ≡ places_below image search.sector ++ place.offset ∷ []
       → Told search' left' (text ++ header_line policy file place.offset place.header)
-      (Some (graver_of found (header_state policy.minimum place.header)))
+      (Some (graver_of found (header_state policy place.header)))
   told_more search search' left left' text found place told is_in header places = record {
     is_in = is_in;
     text_is = ap (λ (first : List ℕ). first ++ header_line policy file place.offset place.header) told.text_is
@@ -96,7 +96,7 @@ module _ (policy : Policy) (file image : List ℕ) where
         ++ place_line policy file place.offset read) (sym header)
         ∙ sym (lines_more (places_below image search.sector) place.offset)
         ∙ ap (place_lines policy file image) (sym places);
-    found_is = ap (λ before. Some (graver_of before (header_state policy.minimum place.header))) told.found_is
+    found_is = ap (λ before. Some (graver_of before (header_state policy place.header))) told.found_is
         ∙ ap (λ read. Some (graver_of (shown_of policy image (places_below image search.sector))
         (place_state policy read))) (sym header)
         ∙ sym (shown_more (places_below image search.sector) place.offset)

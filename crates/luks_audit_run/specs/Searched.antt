@@ -34,7 +34,7 @@ place_line policy file offset (Ok header) = header_line policy file offset heade
 place_line policy file offset (Err fault) = []
 
 abbrev pub place_state : Policy → Result Header HeaderFault → State
-place_state policy (Ok header) = header_state policy.minimum header
+place_state policy (Ok header) = header_state policy header
 place_state policy (Err fault) = Clean
 
 -- the lines of the headers at places of an image, in their order

@@ -125,7 +125,7 @@ fn put_place<O: Sink>(
 ) -> Result<State, RunFault>
     ensures puts { Puts (O.written out.old) (O.written out.new)
         (header_line policy file.now place.offset place.header) (is_err result) }
-    ensures shows { IfOk result (λ state. state ≡ header_state policy.minimum place.header) }
+    ensures shows { IfOk result (λ state. state ≡ header_state policy place.header) }
     ensures writes { (O.counts out.new).failures
         ≡ counted (is_unwritten result) (O.counts out.old).failures }
 {

@@ -3,6 +3,8 @@
 use clap::{Arg, ArgAction, ArgMatches, Command, value_parser};
 use luks_audit::image::Policy;
 use luks_audit::line::Format;
+use luks_audit::program::VERSION;
+use luks_audit::weak_row::Severity;
 use luks_audit_run::image::Scope;
 use std::alloc::{AllocError, Global};
 
@@ -21,7 +23,7 @@ pub struct Request<'r, 'a> {
 pub fn command<'a>(alloc: Global) -> Result<Command<'a>, AllocError> {
     let command = Command::new(alloc, "luksrd-audit")
         .no_binary_name(true)
-        .version("1.2.0")
+        .version(VERSION)
         .about("Lists what is in LUKS headers, and what is weak about them, as JSON.");
     with_images(alloc, with_options(alloc, command)?)
 }
@@ -29,6 +31,7 @@ pub fn command<'a>(alloc: Global) -> Result<Command<'a>, AllocError> {
 // The command with its options.
 fn with_options<'a>(alloc: Global, command: Command<'a>) -> Result<Command<'a>, AllocError> {
     let command = with_minimum(alloc, command)?;
+    let command = with_fail_on(alloc, command)?;
     let command = with_search(alloc, command)?;
     with_tsv(alloc, command)
 }
@@ -40,6 +43,15 @@ fn with_minimum<'a>(alloc: Global, command: Command<'a>) -> Result<Command<'a>, 
         .value_parser(value_parser!(u32))
         .help("Fewer iterations of PBKDF2 are weak, in place of OWASP's figures");
     command.arg(minimum)
+}
+
+fn with_fail_on<'a>(alloc: Global, command: Command<'a>) -> Result<Command<'a>, AllocError> {
+    let fail_on = Arg::new(alloc, "fail-on")
+        .long("fail-on")
+        .value_name("SEVERITY")
+        .value_parser(["low", "high"].as_slice())
+        .help("Weaknesses that make the status 1: low (all, the default) or high");
+    command.arg(fail_on)
 }
 
 fn with_search<'a>(alloc: Global, command: Command<'a>) -> Result<Command<'a>, AllocError> {
@@ -67,6 +79,14 @@ fn with_images<'a>(alloc: Global, command: Command<'a>) -> Result<Command<'a>, A
     command.arg(images)
 }
 
+// The least severity that makes a header flawed.
+fn fail_on(matches: &ArgMatches<'_>) -> Severity {
+    match matches.get_str("fail-on") {
+        Some("high") => Severity::High,
+        _ => Severity::Low,
+    }
+}
+
 /// The request of parsed arguments, or `None` if standard input is named more than once.
 pub fn request_in<'r, 'a>(matches: &'r ArgMatches<'a>) -> Option<Request<'r, 'a>> {
     let files = matches.get_strs("IMAGE")?;
@@ -87,6 +107,7 @@ pub fn request_in<'r, 'a>(matches: &'r ArgMatches<'a>) -> Option<Request<'r, 'a>
         scope,
         policy: Policy {
             minimum: matches.get_one::<u32>("min-iterations"),
+            fail_on: fail_on(matches),
             format,
         },
         files,

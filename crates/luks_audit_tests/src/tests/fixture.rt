@@ -5,6 +5,7 @@
 
 use luks_audit::image::{Policy, audit_image};
 use luks_audit::line::Format;
+use luks_audit::weak_row::Severity;
 use luks_io::memory::MemSource;
 use luks_test_support::bytes::{put, put_numbers};
 use luks_test_support::header1::USUAL_NUMBERS;
@@ -15,12 +16,14 @@ use std::process::Abort;
 /// JSON lines, judged by OWASP's figures.
 pub const PLAIN: Policy = Policy {
     minimum: None,
+    fail_on: Severity::Low,
     format: Format::Json,
 };
 
 /// Columns, judged by OWASP's figures.
 pub const COLUMNS: Policy = Policy {
     minimum: None,
+    fail_on: Severity::Low,
     format: Format::Tsv,
 };
 

@@ -2,6 +2,7 @@
 
 use super::fixture::{COLUMNS, PLAIN, assert_of, header1, image2};
 use luks_audit::image::Policy;
+use luks_audit::weak_row::Severity;
 use luks_audit_run::host::{ImageFault, Images};
 use luks_audit_run::image::Scope;
 use luks_audit_run::run::run;
@@ -104,9 +105,29 @@ fn statuses(rt: HostRuntime) {
     }
 }
 
+// A policy by which only what is severe counts.
+const SEVERE: Policy = Policy {
+    fail_on: Severity::High,
+    ..PLAIN
+};
+
+// A volume whose hash function is SHA-1, and one with few iterations: which of them is flawed.
+#[test]
+fn severe(rt: HostRuntime) {
+    let low = header1(&rt, "xts-plain64", "sha1", &[(212, 1_300_000)]).leak();
+    let high = header1(&rt, "xts-plain64", "sha256", &[]).leak();
+    for (policy, low_status) in [(PLAIN, 1), (SEVERE, 0)] {
+        let mut host = Table::new(low, high, b"");
+        let (ended, _) = run_of(&rt, policy, Scope::Start, &["good"], &mut host, u64::MAX);
+        assert_of(&rt, "low", ended == low_status);
+        let (ended, _) = run_of(&rt, policy, Scope::Start, &["weak"], &mut host, u64::MAX);
+        assert_of(&rt, "high", ended == 1);
+    }
+}
+
 // The names of the columns, and three lines of errors.
 const ERRORS: &[u8] =
-    b"file\toffset\terror\tversion\tuuid\tlabel\tsubsystem\theader\tother_header\tcipher\tkey_bytes\tsector_size\tsegment_offset\tsegment_size\trequirements\tslots\tdigests\ttokens\tfindings\tweak\tseqid\theader_size\tchecksum_hash\tsalt\tiv_tweak\nnone\t\tno LUKS header\t\t\t\t\t\t\t\t\t\t\t\t\t\t\t\t\t\t\t\t\t\t\nmissing\t\tcannot be opened\t\t\t\t\t\t\t\t\t\t\t\t\t\t\t\t\t\t\t\t\t\t\nheavy\t\tout of memory\t\t\t\t\t\t\t\t\t\t\t\t\t\t\t\t\t\t\t\t\t\t\n";
+    b"file\toffset\terror\tversion\tuuid\tlabel\tsubsystem\theader\tother_header\tcipher\tkey_bytes\tsector_size\tsegment_offset\tsegment_size\trequirements\tslots\tdigests\ttokens\tfindings\tweak\tseqid\theader_size\tchecksum_hash\tsalt\tiv_tweak\tprogram_version\tpolicy\tunsupported\tsegment_type\tsegment_flags\tintegrity\tflags\nnone\t\tno LUKS header\t\t\t\t\t\t\t\t\t\t\t\t\t\t\t\t\t\t\t\t\t\t\t1.2.0\t1\t\t\t\t\t\nmissing\t\tcannot be opened\t\t\t\t\t\t\t\t\t\t\t\t\t\t\t\t\t\t\t\t\t\t\t1.2.0\t1\t\t\t\t\t\nheavy\t\tout of memory\t\t\t\t\t\t\t\t\t\t\t\t\t\t\t\t\t\t\t\t\t\t\t1.2.0\t1\t\t\t\t\t\n";
 
 #[test]
 fn columns(rt: HostRuntime) {

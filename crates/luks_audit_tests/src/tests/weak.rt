@@ -18,25 +18,25 @@ static ROWS1: [Row1; 7] = [
         "xts-plain64",
         "sha512",
         &[(212, 209_999)],
-        "[{\"name\":\"iterations\",\"place\":\"slot 0\"}]",
+        "[{\"limit\":210000,\"name\":\"iterations\",\"place\":\"slot 0\",\"severity\":\"high\",\"value\":209999}]",
     ),
     (
         "xts-plain64",
         "SHA1",
         &[(212, 1_300_000)],
-        "[{\"name\":\"sha1\",\"place\":\"slot 0\"},{\"name\":\"sha1\",\"place\":\"digest 0\"}]",
+        "[{\"limit\":null,\"name\":\"sha1\",\"place\":\"slot 0\",\"severity\":\"low\",\"value\":\"SHA1\"},{\"limit\":null,\"name\":\"sha1\",\"place\":\"digest 0\",\"severity\":\"low\",\"value\":\"SHA1\"}]",
     ),
     (
         "xts-plain64",
         "ripemd160",
         &[(212, 1_299_999), (164, 999)],
-        "[{\"name\":\"iterations\",\"place\":\"slot 0\"},{\"name\":\"digest-iterations\",\"place\":\"digest 0\"}]",
+        "[{\"limit\":1300000,\"name\":\"iterations\",\"place\":\"slot 0\",\"severity\":\"high\",\"value\":1299999},{\"limit\":1000,\"name\":\"digest-iterations\",\"place\":\"digest 0\",\"severity\":\"low\",\"value\":999}]",
     ),
     (
         "cbc-essiv:sha256",
         "sha256",
         &[(212, 600_000), (108, 16)],
-        "[{\"name\":\"cbc\",\"place\":\"segment\"},{\"name\":\"short-key\",\"place\":\"segment\"},{\"name\":\"cbc\",\"place\":\"slot 0\"},{\"name\":\"short-key\",\"place\":\"slot 0\"}]",
+        "[{\"limit\":null,\"name\":\"cbc\",\"place\":\"segment\",\"severity\":\"low\",\"value\":\"aes-cbc-essiv:sha256\"},{\"limit\":32,\"name\":\"short-key\",\"place\":\"segment\",\"severity\":\"low\",\"value\":16},{\"limit\":null,\"name\":\"cbc\",\"place\":\"slot 0\",\"severity\":\"low\",\"value\":\"aes-cbc-essiv:sha256\"},{\"limit\":32,\"name\":\"short-key\",\"place\":\"slot 0\",\"severity\":\"low\",\"value\":16}]",
     ),
     (
         // the cipher `capi:cbc(aes)`
@@ -49,14 +49,14 @@ static ROWS1: [Row1; 7] = [
             (16, 0x2861_6573),
             (20, 0x2900_0000),
         ],
-        "[{\"name\":\"cbc\",\"place\":\"segment\"},{\"name\":\"cbc\",\"place\":\"slot 0\"}]",
+        "[{\"limit\":null,\"name\":\"cbc\",\"place\":\"segment\",\"severity\":\"low\",\"value\":\"capi:cbc(aes)-essiv:sha256\"},{\"limit\":null,\"name\":\"cbc\",\"place\":\"slot 0\",\"severity\":\"low\",\"value\":\"capi:cbc(aes)-essiv:sha256\"}]",
     ),
     (
         // the slot is neither enabled nor disabled: luksrd skips it, and it is judged
         "xts-plain64",
         "sha256",
         &[(208, 1), (212, 599_999)],
-        "[{\"name\":\"iterations\",\"place\":\"slot 0\"}]",
+        "[{\"limit\":600000,\"name\":\"iterations\",\"place\":\"slot 0\",\"severity\":\"high\",\"value\":599999}]",
     ),
 ];
 
@@ -77,7 +77,7 @@ type Row2 = (
     &'static str,
 );
 
-static ROWS2: [Row2; 10] = [
+static ROWS2: [Row2; 16] = [
     (
         "aes-xts-plain64",
         "64",
@@ -90,56 +90,56 @@ static ROWS2: [Row2; 10] = [
         "64",
         "{\"type\":\"argon2i\",\"time\":4,\"memory\":65535,\"cpus\":1,\"salt\":\"\"}",
         "1000",
-        "[{\"name\":\"argon2-memory\",\"place\":\"slot 7\"}]",
+        "[{\"limit\":65536,\"name\":\"argon2-memory\",\"place\":\"slot 7\",\"severity\":\"high\",\"value\":65535}]",
     ),
     (
         "aes-xts-plain64",
         "64",
         "{\"type\":\"argon2id\"}",
         "999",
-        "[{\"name\":\"argon2-memory\",\"place\":\"slot 7\"},{\"name\":\"digest-iterations\",\"place\":\"digest 0\"}]",
+        "[{\"limit\":65536,\"name\":\"argon2-memory\",\"place\":\"slot 7\",\"severity\":\"high\",\"value\":null},{\"limit\":3,\"name\":\"argon2-time\",\"place\":\"slot 7\",\"severity\":\"low\",\"value\":null},{\"limit\":1000,\"name\":\"digest-iterations\",\"place\":\"digest 0\",\"severity\":\"low\",\"value\":999}]",
     ),
     (
         "aes-cbc-plain64",
         "16",
         "{\"type\":\"pbkdf2\",\"hash\":\"sha256\",\"iterations\":600000,\"salt\":\"\"}",
         "1000",
-        "[{\"name\":\"cbc\",\"place\":\"slot 7\"},{\"name\":\"short-key\",\"place\":\"slot 7\"}]",
+        "[{\"limit\":null,\"name\":\"cbc\",\"place\":\"slot 7\",\"severity\":\"low\",\"value\":\"aes-cbc-plain64\"},{\"limit\":32,\"name\":\"short-key\",\"place\":\"slot 7\",\"severity\":\"low\",\"value\":16}]",
     ),
     (
         "aes-xts-plain64",
         "32",
         "{\"type\":\"pbkdf2\",\"hash\":\"sha1\",\"iterations\":1000,\"salt\":\"\"}",
         "1000",
-        "[{\"name\":\"iterations\",\"place\":\"slot 7\"},{\"name\":\"sha1\",\"place\":\"slot 7\"}]",
+        "[{\"limit\":1300000,\"name\":\"iterations\",\"place\":\"slot 7\",\"severity\":\"high\",\"value\":1000},{\"limit\":null,\"name\":\"sha1\",\"place\":\"slot 7\",\"severity\":\"low\",\"value\":\"sha1\"},{\"limit\":32,\"name\":\"short-key\",\"place\":\"slot 7\",\"severity\":\"low\",\"value\":16}]",
     ),
     (
         "aes-xts-plain64",
         "32",
         "{\"type\":\"scrypt\"}",
         "1000",
-        "[]",
+        "[{\"limit\":32,\"name\":\"short-key\",\"place\":\"slot 7\",\"severity\":\"low\",\"value\":16}]",
     ),
     (
         "capi:cbc(aes)-essiv:sha256",
         "32",
         "{\"type\":\"scrypt\"}",
         "1000",
-        "[{\"name\":\"cbc\",\"place\":\"slot 7\"}]",
+        "[{\"limit\":null,\"name\":\"cbc\",\"place\":\"slot 7\",\"severity\":\"low\",\"value\":\"capi:cbc(aes)-essiv:sha256\"}]",
     ),
     (
         "capi:authenc(hmac(sha256),cbc(aes))-random",
         "32",
         "{\"type\":\"scrypt\"}",
         "1000",
-        "[{\"name\":\"cbc\",\"place\":\"slot 7\"}]",
+        "[{\"limit\":null,\"name\":\"cbc\",\"place\":\"slot 7\",\"severity\":\"low\",\"value\":\"capi:authenc(hmac(sha256),cbc(aes))-random\"}]",
     ),
     (
         "capi:authenc(xcbc(aes),xts(aes))-random",
         "32",
         "{\"type\":\"scrypt\"}",
         "1000",
-        "[]",
+        "[{\"limit\":32,\"name\":\"short-key\",\"place\":\"slot 7\",\"severity\":\"low\",\"value\":16}]",
     ),
     (
         "xcapi:cbc(aes)-essiv:sha256",
@@ -147,6 +147,49 @@ static ROWS2: [Row2; 10] = [
         "{\"type\":\"scrypt\"}",
         "1000",
         "[]",
+    ),
+    (
+        "cipher_null-ecb",
+        "16",
+        "{\"type\":\"scrypt\"}",
+        "1000",
+        "[{\"limit\":null,\"name\":\"null-cipher\",\"place\":\"slot 7\",\"severity\":\"high\",\"value\":\"cipher_null-ecb\"}]",
+    ),
+    (
+        "capi:ecb(cipher_null)-plain",
+        "16",
+        "{\"type\":\"scrypt\"}",
+        "1000",
+        "[{\"limit\":null,\"name\":\"null-cipher\",\"place\":\"slot 7\",\"severity\":\"high\",\"value\":\"capi:ecb(cipher_null)-plain\"}]",
+    ),
+    (
+        "aes-ecb",
+        "32",
+        "{\"type\":\"scrypt\"}",
+        "1000",
+        "[{\"limit\":null,\"name\":\"ecb\",\"place\":\"slot 7\",\"severity\":\"high\",\"value\":\"aes-ecb\"}]",
+    ),
+    (
+        "serpent-xts-plain64",
+        "63",
+        "{\"type\":\"scrypt\"}",
+        "1000",
+        "[{\"limit\":32,\"name\":\"short-key\",\"place\":\"slot 7\",\"severity\":\"low\",\"value\":31}]",
+    ),
+    (
+        // 2 GiB of memory need one pass, and less needs three
+        "aes-xts-plain64",
+        "64",
+        "{\"type\":\"argon2id\",\"time\":1,\"memory\":2097152,\"cpus\":1,\"salt\":\"\"}",
+        "1000",
+        "[]",
+    ),
+    (
+        "aes-xts-plain64",
+        "64",
+        "{\"type\":\"argon2i\",\"time\":2,\"memory\":2097151,\"cpus\":1,\"salt\":\"\"}",
+        "1000",
+        "[{\"limit\":3,\"name\":\"argon2-time\",\"place\":\"slot 7\",\"severity\":\"low\",\"value\":2}]",
     ),
 ];
 
@@ -179,7 +222,10 @@ fn weak2(rt: HostRuntime) {
 // A minimum of iterations, and whether 1000 of them are weak.
 static MINIMA: [(u32, &str); 3] = [
     (1000, "[]"),
-    (1001, "[{\"name\":\"iterations\",\"place\":\"slot 0\"}]"),
+    (
+        1001,
+        "[{\"limit\":1001,\"name\":\"iterations\",\"place\":\"slot 0\",\"severity\":\"high\",\"value\":1000}]",
+    ),
     (1, "[]"),
 ];
 
@@ -204,7 +250,7 @@ const SKIPPED: &str =
 static MEMBERS: [(&str, &str); 8] = [
     (
         "slots",
-        "[{\"af_hash\":null,\"area_cipher\":null,\"area_key_bytes\":null,\"area_offset\":null,\"area_size\":null,\"can_try\":false,\"hash\":null,\"iterations\":null,\"kdf\":\"argon2id\",\"key_bytes\":null,\"memory\":7,\"number\":7,\"priority\":1,\"reason\":\"member\",\"salt\":\"00ff\",\"state\":\"skipped\",\"stripes\":null,\"threads\":2,\"time\":4}]",
+        "[{\"af_hash\":null,\"area_cipher\":null,\"area_key_bytes\":null,\"area_offset\":null,\"area_size\":null,\"can_try\":false,\"hash\":null,\"iterations\":null,\"kdf\":\"argon2id\",\"key_bytes\":null,\"library_can_try\":false,\"memory\":7,\"number\":7,\"priority\":1,\"reason\":\"member\",\"salt\":\"00ff\",\"state\":\"skipped\",\"stripes\":null,\"threads\":2,\"time\":4,\"tokens\":[{\"number\":3,\"type\":\"a\\t\\\"b\"}]}]",
     ),
     (
         "tokens",

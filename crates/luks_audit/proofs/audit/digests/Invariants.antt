@@ -1,5 +1,6 @@
 use Rattle.std.proofs.Common.{◌≡◌}
-use Rattle.luks_audit.specs.Audit.{by_number, digest_rows}
+use Rattle.luks_audit.specs.Audit.{digest_rows}
+use Rattle.luks_audit.specs.Numbers.{by_number}
 use Rattle.luks_audit.proofs.audit.digests.Given as goal
 
 -- what the numbers before this one give

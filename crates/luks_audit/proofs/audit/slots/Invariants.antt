@@ -1,5 +1,6 @@
 use Rattle.std.proofs.Common.{◌≡◌}
-use Rattle.luks_audit.specs.Audit.{by_number, slot_rows}
+use Rattle.luks_audit.specs.Audit.{slot_rows}
+use Rattle.luks_audit.specs.Numbers.{by_number}
 use Rattle.luks_audit.proofs.audit.slots.Given as goal
 
 -- what the numbers before this one give

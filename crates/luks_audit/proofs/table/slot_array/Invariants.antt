@@ -4,4 +4,4 @@ use Rattle.luks_audit.proofs.table.slot_array.Given as goal
 
 -- the objects so far
 abbrev pub invariant-loop-row : goal.invariant-loop-row
-invariant-loop-row l = l.slots ≡ map slot_value (take l.row-index l.rows)
+invariant-loop-row l = l.slots ≡ map (slot_value l.tokens) (take l.row-index l.rows)

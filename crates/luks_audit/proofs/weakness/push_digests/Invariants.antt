@@ -4,4 +4,5 @@ use Rattle.luks_audit.proofs.weakness.push_digests.Given as goal
 
 -- the weaknesses so far
 abbrev pub invariant-loop-digest : goal.invariant-loop-digest
-invariant-loop-digest l = l.weak ≡ l.initial.weak ++ flat_map digest_weaknesses (take l.digest-index l.digests)
+invariant-loop-digest l =
+    l.weak.items ≡ l.initial.weak.items ++ flat_map digest_weaknesses (take l.digest-index l.digests)

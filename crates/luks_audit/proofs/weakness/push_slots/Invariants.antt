@@ -4,4 +4,5 @@ use Rattle.luks_audit.proofs.weakness.push_slots.Given as goal
 
 -- the weaknesses so far
 abbrev pub invariant-loop-slot : goal.invariant-loop-slot
-invariant-loop-slot l = l.weak ≡ l.initial.weak ++ flat_map (slot_weaknesses l.minimum) (take l.slot-index l.slots)
+invariant-loop-slot l =
+    l.weak.items ≡ l.initial.weak.items ++ flat_map (slot_weaknesses l.minimum l.tokens) (take l.slot-index l.slots)
