@@ -38,8 +38,6 @@ ALLOWED_SKIPS = {
     "nothing can be mounted by FUSE",
     "this kernel has no such file system",
     "this processor is older",
-    # (until the library does)
-    "this version of luksrd does not derive keys by Argon2id",
 }
 PLACES = {
     "luksrd": "crates/luksrd/out/luksrd",

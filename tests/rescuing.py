@@ -1,5 +1,6 @@
 """luksrd-rescue as the tests run it: from the tree, over the built library and luksrd-audit, at a terminal or without
 one, and with bad sectors in an image."""
+import contextlib
 import fcntl
 import os
 import pty
@@ -13,20 +14,31 @@ import time
 import pytest
 import volumes
 from kinds import VOLUME1, VOLUME2
-from support import PATIENCE, TOP, built, end_group, must, run
+from support import PATIENCE, TOP, built, end_group, must, run, wait_until
 from volumes import copy_of
 
 COMMAND = TOP / "rescue/luksrd-rescue"
+CHANGED = """
+import sys
+sys.path.insert(0, sys.argv.pop(1))
+from luksrd_rescue import audit, command, decrypt, serve, terminal, tools, trying, unlocking, working
+{}
+sys.exit(command.main(sys.argv[1:]))
+"""
 
 
 class Rescue:
     """The command, which works in the folder of a test."""
 
-    def __init__(self, folder, variables):
-        self.folder, self.variables = folder, {**os.environ, **variables}
+    def __init__(self, folder, variables, begin=(str(COMMAND),)):
+        self.folder, self.variables, self._begin = folder, {**os.environ, **variables}, begin
+
+    def changed(self, *lines):
+        """The same command with these lines of Python before it, which change its modules."""
+        return Rescue(self.folder, self.variables, ("-c", CHANGED.format("\n".join(lines)), str(COMMAND.parent)))
 
     def command(self, *words):
-        return [sys.executable, str(COMMAND), *map(os.fspath, words)]
+        return [sys.executable, *self._begin, *map(os.fspath, words)]
 
     def __call__(self, *words, env=None, before=(), **how):
         """How a run ends; `before` is a command that runs it, such as strace."""
@@ -136,6 +148,31 @@ def bad_sectors(cached):
                 **{f"FAILING_{name.upper()}": str(value) for name, value in further.items()}}
 
     return variables
+
+
+@contextlib.contextmanager
+def disk_by_nbdfuse(image, places, folder):
+    """The image as a file in this folder, of which these bytes cannot be read: nbdfuse shows what nbdkit serves, over
+    the page cache of the kernel."""
+    at, rows, size = 0, ["0 ? 1"], os.stat(image).st_size
+    for start, length in places:
+        rows += [f"{at} {start - at} +", f"{start} {length} -"]
+        at = start + length
+    rows.append(f"{at} {size - at} +")
+    folder.mkdir()
+    (folder.parent / "nbdkit.map").write_text("\n".join(rows) + "\n")
+    disk = folder / image.name
+    process = subprocess.Popen(["nbdfuse", "--readonly", disk, "--command", "nbdkit", "-s", "--filter=ddrescue", "file",
+                                image, f"ddrescue-mapfile={folder.parent}/nbdkit.map"], stdin=subprocess.DEVNULL,
+                               stderr=subprocess.DEVNULL)
+    try:
+        wait_until(lambda: disk.exists() or process.poll() is not None)
+        yield disk
+    finally:
+        # (what is killed in place of this leaves a mount behind)
+        while process.poll() is None:
+            run("fusermount3", "-u", folder)
+            time.sleep(0.1)
 
 
 def merged(places):

@@ -1,15 +1,14 @@
-"""luksrd-rescue decrypt: key files, and passphrases that are asked for at a terminal."""
-import inspect
+"""luksrd-rescue decrypt: key files, passphrases that are asked for at a terminal, and what Argon2 costs."""
 import os
 import shlex
 import signal
+from pathlib import Path
 
-import luksrd
 import pytest
 import volumes
 from kinds import VOLUME2
 from rescuing import Terminal, says
-from support import wait_until
+from support import needs, processes_of, wait_until
 from volumes import PASS, PASS2, WRONG
 
 QUICK2 = "--pbkdf pbkdf2 --pbkdf-force-iterations 1000"
@@ -146,17 +145,74 @@ def memory_of(process):
     return b"".join(found)
 
 
-@pytest.mark.parametrize("kdf, name", [("argon2i", "Argon2i"), ("argon2id", "Argon2id")])
-def test_argon2(rescue, disk2, kinds, kdf, name):
-    """Its cost is said while the key is derived. A library that does not derive by Argon2 leaves the slot out."""
-    volumes.cryptsetup(f"luksConvertKey --key-slot 0 --pbkdf {kdf} --pbkdf-memory 65536 --pbkdf-parallel 1 "
-                       "--pbkdf-force-iterations 4 --key-file pass", disk2, cwd=rescue.folder)
-    ended = rescue("decrypt", disk2, "--key-file", "pass", "-o", "plain")
-    if "argon2_memory" in inspect.signature(luksrd.open).parameters:
-        says(ended, f"trying key slot 0 ({name}, 64 MiB", status=0)
-        assert (rescue.folder / "plain").read_bytes() == kinds.text(VOLUME2)
-    else:
-        says(ended, "no key slot opens by this key file (not tried: 0)", status=2)
-        says(rescue("decrypt", disk2, "--key-file", "pass", "--key-slot", "0", "-o", "plain"),
-             f"key slot 0 cannot be opened: this version of luksrd does not derive keys by {name}", status=1)
-    says(rescue("decrypt", disk2, "--key-file", "pass2", "--key-slot", "1", "-o", "plain2"), status=0)
+@pytest.fixture
+def argon2(disk2):
+    """That volume with Argon2id in slot 0, for 64 MiB, and Argon2i in slot 1."""
+    for slot, kdf, key in (0, "argon2id", "pass"), (1, "argon2i", "pass2"):
+        volumes.cryptsetup(f"luksConvertKey --key-slot {slot} --pbkdf {kdf} --pbkdf-memory 65536 --pbkdf-parallel 1 "
+                           f"--pbkdf-force-iterations 4 --key-file {key}", disk2, cwd=disk2.parent)
+    return disk2
+
+
+@pytest.mark.parametrize("key, costs", [("pass", ["0 (Argon2id, 64 MiB, 4 passes)"]), (
+    "pass2", ["0 (Argon2id, 64 MiB, 4 passes)", "1 (Argon2i, 64 MiB, 4 passes)"])])
+def test_argon2(rescue, argon2, kinds, key, costs):
+    """Its cost is said while the key is derived, and before that if there is less memory."""
+    ended = rescue("decrypt", argon2, "--key-file", key, "-o", "plain")
+    says(ended, *(f"trying key slot {cost}" for cost in costs), status=0)
+    assert (rescue.folder / "plain").read_bytes() == kinds.text(VOLUME2)
+    assert "needs 64 MiB of memory" not in ended.message
+    ended = rescue.changed("unlocking.available_memory = lambda: 20 << 20")(
+        "decrypt", argon2, "--key-file", key, "-o", "again")
+    says(ended, *(f"key slot {cost[0]} needs 64 MiB of memory, and only 20 MiB are free" for cost in costs), status=0)
+
+
+def costly(image):
+    """Slot 0 asks for 8 GiB, slot 1 fills more than 64 GiB."""
+    volumes.edit_metadata(image, lambda tree: [
+        tree["keyslots"][slot]["kdf"].update(change)
+        for slot, change in {"0": {"memory": 8 << 20}, "1": {"time": 1025}}.items()])
+    return image
+
+
+def test_argon2_over_the_limits(rescue, argon2):
+    """Such a slot is tried only if it is named, as `look` says."""
+    costly(argon2)
+    shown = rescue("look", "disk.img").output.decode()
+    words = [f"slot {number}: opens with a passphrase, only by --key-slot {number} ({cost})"
+             for number, cost in enumerate(("Argon2id, 8 GiB, 4 passes", "Argon2i, 64 MiB, 1,025 passes"))]
+    assert all(line in shown for line in words), shown
+    assert "    luksrd-rescue decrypt disk.img --key-slot 0 -o plain.img\n" in shown
+    ended = rescue("decrypt", argon2, "--key-file", "pass", "-o", "plain")
+    says(ended, "no key slot can be tried: key slot 0 opens with a passphrase, only by --key-slot 0", status=1)
+    (rescue.folder / "lines").write_bytes(PASS)
+    ended = rescue("try", argon2, "--candidates", "lines")
+    says(ended, "no key slot can be tried", *words, status=1)
+    little = ["bash", "-c", 'ulimit -v 4000000; exec "$@"', "-"]
+    ended = rescue("decrypt", argon2, "--key-file", "pass", "--key-slot", "0", "-o", "plain", before=little)
+    says(ended, "key slot 0: out of memory: Argon2 needs 8388608 KiB for key slot 0", "no key slot could be tried",
+         status=3)
+    ended = rescue("try", argon2, "--candidates", "lines", "--key-slot", "0", before=little)
+    says(ended, "out of memory: Argon2 needs 8388608 KiB for key slot 0; --key-slot tries another slot alone", status=3)
+
+
+@needs("nbdkit", "nbdfuse", "fusermount3", "fuse")
+def test_argon2_that_is_named(rescue, argon2, kinds, filter):
+    """Over limits that are lower here, it opens if it is named, also by nbdkit."""
+    lower = rescue.changed("audit.ARGON2_MEMORY = 1 << 20")
+    words = argon2, "--key-slot", "0"
+    says(lower("decrypt", argon2, "--key-file", "pass", "-o", "plain"), "only by --key-slot 0", status=1)
+    says(lower("decrypt", *words, "--key-file", "pass", "-o", "plain"), status=0)
+    assert (rescue.folder / "plain").read_bytes() == kinds.text(VOLUME2)
+    (rescue.folder / "lines").write_bytes(b"wrong\n" + PASS)
+    assert lower("try", *words, "--candidates", "lines").output.startswith(b"line 2 opens key slot 0\n")
+    served = rescue.folder / "served/plain"
+    process = lower.start("serve", *words, "served", "--key-file", "pass", env={"LUKSRD_FILTER": str(filter)})
+    wait_until(lambda: served.exists() or process.poll() is not None)
+    assert process.poll() is None, process.communicate()
+    assert served.read_bytes() == kinds.text(VOLUME2)
+    commands = [Path("/proc", str(it), "cmdline").read_bytes().split(b"\0") for it in processes_of(rescue.folder)]
+    assert any({b"argon2-memory=67108864", b"argon2-fill=268435456"} <= set(words) for words in commands), commands
+    process.send_signal(signal.SIGINT)
+    process.communicate()
+    assert process.returncode == 0

@@ -108,7 +108,10 @@ def test_partition(rescue, kinds, tmp_path):
     assert (tmp_path / "short").read_bytes() == kinds.text(VOLUME2)[:-8192]
 
 
-def test_several_volumes(rescue, kinds, tmp_path):
+@pytest.mark.parametrize("words", [["decrypt", "disk.img", "-o", "plain"], ["try", "disk.img", "--candidates", "pass"]],
+                         ids=["decrypt", "try"])
+def test_several_volumes(rescue, kinds, tmp_path, words):
+    """They are listed, and none is opened."""
     volumes.passphrases(tmp_path)
     one, two = (kinds / VOLUME1).read_bytes(), (kinds / VOLUME2).read_bytes()
     sectors = [len(it) // 512 for it in (one, two)]
@@ -116,9 +119,9 @@ def test_several_volumes(rescue, kinds, tmp_path):
     disk.write_bytes(bytes(1 << 20) + one + two + bytes(1 << 20))
     must("sfdisk", "-q", disk, stdin=f"label: dos\nstart=2048, size={sectors[0]}\nstart={2048 + sectors[0]}, "
          f"size={sectors[1]}\n".encode())
-    ended = rescue("decrypt", disk, "--key-file", "pass", "-o", "plain")
-    says(ended, "--partition 1", "--partition 2", status=1)
-    assert not (tmp_path / "plain").exists()
+    ended = rescue(*words)
+    says(ended, "disk.img: it has 2 LUKS volumes; add one of\n    --partition 1: ", "\n    --partition 2: ", status=1)
+    assert (ended.output, (tmp_path / "plain").exists()) == (b"", False)
 
 
 def test_many_threads_over_a_larger_volume(rescue, made2, tmp_path):

@@ -9,7 +9,7 @@ import subprocess
 import pytest
 import volumes
 from kinds import ESSIV, START, VOLUME1, VOLUME2
-from rescuing import blocks_by_ddrescuelog, merged, says, with_zeros
+from rescuing import blocks_by_ddrescuelog, disk_by_nbdfuse, merged, says, with_zeros
 from support import must, namespace, needs, shown
 from volumes import copy_of, metadata
 
@@ -51,6 +51,7 @@ PLACES = {
     "one sector": [(START + 4096, 512)],
     "the first and the last": [(START, 512), (START + 303104 - 512, 512)],
     "neighbours and others": [(START + 8192, 1536), (START + 9728, 512), (START + 100000, 7), (START + 200704, 65536)],
+    "neighbours of 512": [(START + 4096, 512), (START + 9216, 512), (START + 100 * 1024 + 1024, 1024)],
     "between sectors": [(START + 4096 * 3 - 1, 2)],
     "forty": [(START + 7168 * number, 512) for number in range(40)],
     "all of it": [(START, 303104)],
@@ -74,6 +75,26 @@ def test_bad_sectors(rescue, volume, kinds, bad_sectors, name, sector, places, u
     assert listed(ended.message) == [(START + start, start, length) for start, length in lost]
     total = sum(length for _, length in lost)
     assert re.search(rf"plain: {re.escape(sized(total))} of .* are missing", ended.message), ended.message
+
+
+@needs("nbdkit", "nbdfuse", "fusermount3", "fuse")
+@pytest.mark.parametrize("is_direct", [True, False], ids=["past the page cache", "through the page cache"])
+@pytest.mark.parametrize("name, sector", [("luks2 xts-plain64 512 512", 512), (VOLUME2, 4096)])
+def test_page_cache(rescue, volume, kinds, tmp_path, name, sector, is_direct):
+    """What is lost is exactly the sectors, or their pages where a read cannot go past the page cache."""
+    image, plain, places = volume(name), kinds.text(name), PLACES["neighbours of 512"]
+    pages = [(at // 4096 * 4096, -(-(at + length) // 4096) * 4096 - at // 4096 * 4096) for at, length in places]
+    lost = lost_by(places if is_direct else pages, START, sector, len(plain))
+    if not is_direct:
+        rescue = rescue.changed("from luksrd_rescue import image", "image.Image._direct_file = lambda self: -1")
+    with disk_by_nbdfuse(image, places, tmp_path / "fuse") as disk:
+        with open(disk, "rb", buffering=0) as file, pytest.raises(OSError):
+            # (a sector that can be read, in a page with one that cannot)
+            os.pread(file.fileno(), 512, places[0][0] + 512)
+        ended = rescue("decrypt", disk, "--key-file", "pass", "-o", "plain", "--map", "map")
+    says(ended, status=6)
+    assert shown((rescue.folder / "plain").read_bytes()) == shown(with_zeros(plain, lost))
+    assert lost_in_map(rescue.folder / "map") == lost
 
 
 def sized(count):

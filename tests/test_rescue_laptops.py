@@ -10,16 +10,15 @@ import types
 import pytest
 import volumes
 from disks import EFI, LUKS, MIB, disk, file_system, row
-from rescuing import Terminal
+from rescuing import Terminal, disk_by_nbdfuse
 from documents import document
-from support import alone, must, namespace, needs, run, wait_until
+from support import alone, lack_of, must, namespace, needs, run, wait_until
 from volumes import PASS, copy_of, cryptsetup, luks1, passphrases
 
 pytestmark = needs("partx", "sfdisk", "cryptsetup", "mke2fs")
 FSTAB = b"/dev/vg0/root / ext4 defaults 0 1\n"
 KDFS = {"pbkdf2": "--pbkdf pbkdf2 --pbkdf-force-iterations 1000",
         "argon2id": "--pbkdf argon2id --pbkdf-force-iterations 4 --pbkdf-memory 65536 --pbkdf-parallel 1"}
-NO_ARGON2 = "this version of luksrd does not derive keys by Argon2id"
 SECTOR = 512
 
 
@@ -45,8 +44,9 @@ def encrypted(path, plain, kdf):
     return path.read_bytes()
 
 
-def physical_volume(folder, loop, root, swap_length):
-    """A physical volume of LVM2 with a logical volume of swap space and one with this file system, in two pieces."""
+def physical_volume(folder, loop, root, swap_length, pieces):
+    """A physical volume of LVM2 with a logical volume of swap space and one with this file system, in one piece or
+    two."""
     path = folder / "physical"
     path.touch()
     os.truncate(path, 4 * MIB + len(root) + swap_length)
@@ -59,10 +59,11 @@ def physical_volume(folder, loop, root, swap_length):
         command, *words = line.split()
         return must("lvm", command, "--driverloaded", "n", "--config", config, *words).decode()
 
-    first = len(root) // MIB - 4
+    first = len(root) // MIB - 4 * (pieces - 1)
     for line in (f"pvcreate -q {device}", f"vgcreate -q -s 1M --setautoactivation n vg0 {device}",
                  f"lvcreate -q -an -Zn -Wn -n root -l {first} vg0",
-                 f"lvcreate -q -an -Zn -Wn -n swap -l {swap_length // MIB} vg0", "lvextend -q -l +4 vg0/root"):
+                 f"lvcreate -q -an -Zn -Wn -n swap -l {swap_length // MIB} vg0",
+                 *["lvextend -q -l +4 vg0/root"] * (pieces - 1)):
         lvm(line)
     start = int(lvm(f"pvs --noheadings --units b --nosuffix -o pe_start {device}"))
     content = bytearray(path.read_bytes())
@@ -76,16 +77,16 @@ def physical_volume(folder, loop, root, swap_length):
     return bytes(content)
 
 
-def first_laptop(folder, loop, kdf):
+def first_laptop(folder, loop, kdf, pieces):
     """GPT, LUKS2, LVM, ext4."""
-    plain = physical_volume(folder, loop, with_fstab(folder, "ext4", 12 * MIB), 2 * MIB)
+    plain = physical_volume(folder, loop, with_fstab(folder, "ext4", 12 * MIB), 2 * MIB, pieces)
     content = encrypted(folder / "volume", plain, kdf)
     disk(folder / "laptop.img", "gpt", [row(MIB, 2 * MIB, EFI), row(3 * MIB, len(content), LUKS)],
          {MIB: file_system(folder / "efi", "vfat", 2 * MIB, "ESP"), 3 * MIB: content})
     return plain
 
 
-def second_laptop(folder, _, __):
+def second_laptop(folder, *_):
     """MBR, LUKS1, ext4."""
     plain = with_fstab(folder, "ext4", 8 * MIB)
     luks1(folder / "volume", "aes-xts-plain64", "sha256", 512)
@@ -96,38 +97,36 @@ def second_laptop(folder, _, __):
     return plain
 
 
-def third_laptop(folder, _, __):
+def third_laptop(folder, *_):
     """A whole disk of LUKS2, XFS."""
     plain = with_fstab(folder, "xfs", 16 * MIB)
     encrypted(folder / "laptop.img", plain, "pbkdf2")
     return plain
 
 
+# how each is made, the key derivation, and the pieces of its logical volume
 LAPTOPS = {
-    "GPT, LUKS2 pbkdf2, LVM, ext4": (first_laptop, "pbkdf2", "vg0/root"),
-    "GPT, LUKS2 argon2id, LVM, ext4": (first_laptop, "argon2id", "vg0/root"),
-    "MBR, LUKS1, ext4": (second_laptop, "pbkdf2", ""),
-    "LUKS2, XFS": (third_laptop, "pbkdf2", ""),
+    "GPT, LUKS2 pbkdf2, LVM, ext4": (first_laptop, "pbkdf2", 2),
+    "GPT, LUKS2 argon2id, LVM, ext4": (first_laptop, "argon2id", 1),
+    "MBR, LUKS1, ext4": (second_laptop, "pbkdf2", 0),
+    "LUKS2, XFS": (third_laptop, "pbkdf2", 0),
 }
 
 
 @pytest.fixture(params=LAPTOPS)
 def laptop(request, rescue, loop, cached, tmp_path):
     """The folder with laptop.img, in which commands run, and what was encrypted."""
-    make, kdf, logical = LAPTOPS[request.param]
+    make, kdf, pieces = LAPTOPS[request.param]
 
     def build(folder):
         folder.mkdir()
-        (folder / "plain").write_bytes(make(folder, loop, kdf))
+        (folder / "plain").write_bytes(make(folder, loop, kdf, pieces))
 
     folder = cached(re.sub(r"\W+", "-", request.param), build)
     copy_of(folder / "laptop.img", tmp_path / "laptop.img")
     shown = must(*rescue.command("look", "laptop.img"), env=rescue.variables, cwd=tmp_path).decode()
-    if NO_ARGON2 in shown:
-        pytest.skip(NO_ARGON2)
     return types.SimpleNamespace(
-        folder=tmp_path, plain=(folder / "plain").read_bytes(), shown=shown, logical=logical,
-        is_argon2=kdf == "argon2id")
+        folder=tmp_path, plain=(folder / "plain").read_bytes(), shown=shown, kdf=kdf, is_joined=pieces > 1)
 
 
 pytestmark = [pytestmark, alone, needs("root", "loop", "lvm", "mkfs.xfs", "mkfs.vfat")]
@@ -157,16 +156,16 @@ def typed(rescue, words, **how):
 @needs("mount")
 def test_decrypted(rescue, laptop):
     """look, decrypt, mount; or for a logical volume in two pieces look, decrypt, decrypt --lv, mount."""
+    cost = "Argon2id, 64 MiB, 4 passes" if laptop.kdf == "argon2id" else "PBKDF2, sha256, 1,000 iterations"
+    assert f"opens with a passphrase ({cost})" in laptop.shown
     status, shown = typed(rescue, command(laptop.shown, "decrypt"))
-    assert status == 0, shown
+    assert status == 0 and f"trying key slot 0 ({cost})" in shown, shown
     assert (laptop.folder / "plain.img").read_bytes()[:len(laptop.plain)] == laptop.plain
-    if not laptop.logical:
-        mounts(shown, laptop.folder)
-        return
-    words = command(shown, "decrypt")
-    assert words[-4:-2] == ["--lv", laptop.logical]
-    status, shown = typed(rescue, words)
-    assert status == 0, shown
+    if laptop.is_joined:
+        words = command(shown, "decrypt")
+        assert words[-4:-2] == ["--lv", "vg0/root"]
+        status, shown = typed(rescue, words)
+        assert status == 0, shown
     mounts(shown, laptop.folder)
 
 
@@ -180,7 +179,10 @@ def test_served(rescue, laptop, filter):
         shown = terminal.shown.decode().replace("\r\n", "\n")
         served = laptop.folder / words[-1] / "plain"
         assert served.read_bytes()[:len(laptop.plain)] == laptop.plain
-        if not laptop.logical:
+        # (a logical volume in two pieces cannot be mounted from it)
+        if laptop.is_joined:
+            assert "in 2 pieces" in shown and " --lv vg0/root -o root.img" in shown
+        else:
             mounts(shown, laptop.folder)
         terminal.signal(signal.SIGINT)
         assert terminal.ended() == 0
@@ -201,23 +203,31 @@ def test_tried(rescue, laptop):
 
 
 class TestBadSectors:
-    """The third laptop, with forty bad sectors in places of the file system that are not in use."""
+    """The third laptop, with forty bad sectors in places of the file system that are not in use: reads of them fail by
+    a library that is preloaded, or by nbdfuse, over the page cache."""
 
     pytestmark = pytest.mark.parametrize("laptop", ["LUKS2, XFS"], indirect=True)
 
-    @pytest.fixture
-    def bad(self, laptop, bad_sectors):
+    @pytest.fixture(params=["preloaded", "nbdfuse"])
+    def bad(self, request, rescue, laptop, bad_sectors):
         start = volumes.payload_start(laptop.folder / "laptop.img")
         unused = [at for at in range(8 * MIB, len(laptop.plain) - MIB, 9 * 4096 + SECTOR * 3)
                   if not any(laptop.plain[at - 4096:at + 8192])]
         places = [at // SECTOR * SECTOR for at in unused[:40]]
         assert len(places) == 40
-        env = bad_sectors(laptop.folder / "laptop.img", [(start + at, SECTOR) for at in places])
-        return types.SimpleNamespace(places=places, env=env)
+        lost, image = [(start + at, SECTOR) for at in places], laptop.folder / "laptop.img"
+        if request.param == "preloaded":
+            yield types.SimpleNamespace(places=places, env=bad_sectors(image, lost), shown=laptop.shown)
+            return
+        if reason := lack_of("nbdfuse") or lack_of("fuse"):
+            pytest.skip(reason)
+        with disk_by_nbdfuse(image, lost, laptop.folder / "disk"):
+            shown = must(*rescue.command("look", "disk/laptop.img"), env=rescue.variables, cwd=laptop.folder).decode()
+            yield types.SimpleNamespace(places=places, env={}, shown=shown)
 
     @needs("mount")
     def test_decrypted(self, rescue, laptop, bad):
-        status, shown = typed(rescue, command(laptop.shown, "decrypt"), env=bad.env)
+        status, shown = typed(rescue, command(bad.shown, "decrypt"), env=bad.env)
         assert status == 6, shown
         plain = bytearray(laptop.plain)
         unit = 4096  # of the encryption
@@ -229,7 +239,7 @@ class TestBadSectors:
     @needs("nbdkit", "nbdfuse", "fusermount3", "fuse")
     def test_served(self, rescue, laptop, bad, filter):
         rescue.variables["LUKSRD_FILTER"] = str(filter)
-        words = command(laptop.shown, "serve")
+        words = command(bad.shown, "serve")
         with Terminal(rescue, *words, env=bad.env) as terminal:
             terminal.asked().type(PASS + b"\n").until(b"ends it\\.")
             with open(laptop.folder / words[-1] / "plain", "rb", buffering=0) as file:

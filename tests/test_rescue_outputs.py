@@ -4,6 +4,7 @@ import stat
 
 import pytest
 from kinds import VOLUME1, VOLUME2
+from luksrd_rescue.command import number
 from rescuing import Terminal, says
 from support import FULL, alone, must, needs, shown
 from volumes import copy_of
@@ -103,10 +104,6 @@ def test_devices(rescue, disk2, kinds, loop, tmp_path):
     ("1Mi", 1 << 20), ("0x10", 16), ("010", 8), ("2G", 2 * 10 ** 9), ("1Ti", 1 << 40)])
 def test_numbers(word, value):
     """ddrescue's suffixes."""
-    import sys
-    from support import TOP
-    sys.path.insert(0, str(TOP / "rescue"))
-    from luksrd_rescue.command import number
     assert number(word) == value
 
 
@@ -116,18 +113,28 @@ def test_no_numbers(rescue, disk1, word):
     says(rescue("decrypt", disk1, f"--offset={word}", "-o", "plain"), "--offset", status=1)
 
 
+DECRYPT, SERVE, TRY = "decrypt disk.img -o x", "serve disk.img x", "try disk.img --candidates pass"
+
+
 @pytest.mark.of_script
-@pytest.mark.parametrize("words, text", [
-    ([], "usage"), (["nonsense"], "usage"), (["decrypt"], "usage"), (["decrypt", "disk.img"], "usage"),
-    (["decrypt", "disk.img", "-o", "x", "--key-slot", "32"], "--key-slot"),
-    (["decrypt", "disk.img", "-o", "x", "--range", "1"], "--range"),
-    (["decrypt", "disk.img", "-o", "x", "--cipher", "rot13"], "--cipher"),
-    (["decrypt", "disk.img", "-o", "x", "--payload-offset", "1"], "goes with --volume-key-file"),
-    (["decrypt", "disk.img", "-o", "x", "--key-file", "a", "--volume-key-file", "b"], "not allowed with"),
-    (["decrypt", "disk.img", "-o", "x", "--resume", "--retry", "m"], "not allowed with"),
-    (["decrypt", "disk.img", "-o", "x", "--length", "0x"], "--length")])
-def test_arguments_that_cannot_be(rescue, disk1, words, text):
-    says(rescue(*words), text, status=1)
+@pytest.mark.parametrize("line, text", [
+    ("", "usage"), ("nonsense", "usage"), ("decrypt", "decrypt"), ("decrypt disk.img", "decrypt"), ("look", "look"),
+    ("look --x disk.img", "--x"), ("look --jso disk.img", "--jso"), ("serve", "serve"), ("serve disk.img", "serve"),
+    ("try disk.img", "--candidates"), ("try --candidates pass", "IMAGE"),
+    *((f"{command} --key-slot 32", "--key-slot") for command in (DECRYPT, SERVE, TRY)),
+    *((f"{command} --key-file a --volume-key-file b", "not allowed with") for command in (DECRYPT, SERVE)),
+    (f"{TRY} --jobs 0", "--jobs"), (f"{TRY} --max-iterations 0", "--max-iterations"),
+    (f"{DECRYPT} --range 1", "--range"), (f"{DECRYPT} --cipher rot13", "--cipher"),
+    (f"{DECRYPT} --resume --retry m", "not allowed with"), (f"{DECRYPT} --length 0x", "--length")])
+def test_arguments_that_cannot_be(rescue, disk1, line, text):
+    ended = rescue(*line.split())
+    says(ended, "usage: luksrd-rescue", text, status=1)
+    assert (ended.output, (rescue.folder / "x").exists()) == (b"", False)
+
+
+@pytest.mark.of_script
+def test_volume_key_option_without_the_key(rescue, disk1):
+    says(rescue(*DECRYPT.split(), "--payload-offset", "1"), "goes with --volume-key-file", status=1)
 
 
 @pytest.mark.of_script

@@ -6,9 +6,11 @@ import re
 import signal
 import subprocess
 import time
+import types
 
 import pytest
 import volumes
+from luksrd_rescue import terminal
 from rescuing import Terminal, says
 from support import needs, shown, wait_until
 
@@ -104,12 +106,16 @@ def check_map(folder, plain):
                 assert shown(written.read(length)) == shown(wanted.read(length))
 
 
-def test_killed_and_gone_on_with_once(rescue, large, plain):
-    run = rescue.start(*COMMAND)
+@pytest.mark.parametrize("number", [signal.SIGKILL, signal.SIGINT])
+def test_ended_once(rescue, large, plain, number):
+    run = rescue.start(*COMMAND, "--quiet")
     has_come_to(run, lambda: len(blocks_of(rescue.folder / "plain.map")) > 1)
-    run.kill()
-    run.wait()
-    run.communicate()
+    run.send_signal(number)
+    _, message = run.communicate()
+    if number == signal.SIGINT:
+        assert run.returncode == 130
+        wanted = r"luksrd-rescue: interrupted: [^\n]* are done; --resume goes on by plain\.map\n"
+        assert re.fullmatch(wanted, message.decode())
     says(rescue(*COMMAND), "there is such a file", status=1)
     says(rescue(*COMMAND, "--resume"), status=0)
     assert same(rescue.folder / "plain", plain) and not (rescue.folder / "plain.map").exists()
@@ -186,18 +192,6 @@ def test_what_is_read_again(rescue, large, plain):
     says(rescue(*COMMAND, "--quiet", "--resume", before=[*trace, "-o", "trace2"]), status=0)
     both = payload_reads(first, large) + payload_reads(rescue.folder / "trace2", large)
     assert 0 <= sum(length for _, length in both) - LENGTH <= 64 << 20
-    assert same(rescue.folder / "plain", plain)
-
-
-def test_interrupted(rescue, large, plain):
-    run = rescue.start(*COMMAND, "--quiet")
-    has_come_to(run, lambda: len(blocks_of(rescue.folder / "plain.map")) > 1)
-    run.send_signal(signal.SIGINT)
-    _, message = run.communicate()
-    assert run.returncode == 130
-    wanted = r"luksrd-rescue: interrupted: [^\n]* are done; --resume goes on by plain\.map\n"
-    assert re.fullmatch(wanted, message.decode())
-    says(rescue(*COMMAND, "--resume"), status=0)
     assert same(rescue.folder / "plain", plain)
 
 
@@ -304,3 +298,23 @@ def test_progress(rescue, large):
         assert re.search(rb"\d+% .*\[\d+:\d+<(\?|\d+:\d+), .*B/s\]", terminal.shown) and rb"Traceback" not in terminal.shown
     (rescue.folder / "plain").unlink()
     assert rescue(*COMMAND, "--quiet").message == ""
+    # without a terminal a line each ten seconds, which are none here
+    (rescue.folder / "plain").unlink()
+    ended = rescue.changed("terminal._SECONDS = 0")(*COMMAND)
+    lines = [line for line in ended.message.splitlines() if line.endswith(" left")]
+    assert len(lines) > 2 and re.fullmatch(r"luksrd-rescue: 160 MiB of 160 MiB \(100 %\), .*iB/s, 0 s left", lines[-1])
+
+
+def test_progress_without_a_terminal(monkeypatch, capfd):
+    """A line each ten seconds, by a clock that the test sets."""
+    now, lines = [0.0], []
+    monkeypatch.setattr(terminal, "time", types.SimpleNamespace(monotonic=lambda: now[0]))
+    progress = terminal.Progress(100 << 20)
+    for at, count in (0, 0), (4, 8), (9.9, 8), (10, 4), (12, 10), (19.9, 0), (20, 10), (45, 0), (4045, 0):
+        now[0] = at
+        progress.advance(count << 20)
+        lines.append(capfd.readouterr().err.removeprefix("luksrd-rescue: "))
+    assert lines == ["", "", "", "20 MiB of 100 MiB (20 %), 2 MiB/s, 40 s left\n", "", "",
+                     "40 MiB of 100 MiB (40 %), 2 MiB/s, 30 s left\n",
+                     "40 MiB of 100 MiB (40 %), 910.2 KiB/s, 1 min 08 s left\n",
+                     "40 MiB of 100 MiB (40 %), 10.1 KiB/s, 1 h 41 min left\n"]

@@ -5,14 +5,13 @@ import errno
 import os
 import re
 import signal
-import sys
 import types
 
 import pytest
 from disks import LUKS, MIB, disk, row
 from kinds import ESSIV, KINDS, VOLUME1, VOLUME2, volume_key_options
-from rescuing import Terminal
-from support import TOP, needs, processes_of, run, wait_until
+from rescuing import Terminal, says
+from support import needs, processes_of, run, wait_until
 from volumes import PASS, copy_of
 
 pytestmark = needs("nbdkit", "nbdfuse", "fusermount3", "fuse")
@@ -76,14 +75,6 @@ def test_by_the_volume_key(serve, kinds):
         assert served.path.read_bytes() == kinds.text(VOLUME2)
     with serve(kinds / VOLUME2, *words[:2]) as served:
         assert served.path.read_bytes() == kinds.text(VOLUME2)
-
-
-@pytest.mark.of_script
-@pytest.mark.parametrize("key", ["-", "/proc/self/fd/0"])
-def test_a_volume_key_that_is_read_once(rescue, filter, kinds, key):
-    ended = rescue("serve", kinds / VOLUME2, "plain", "--volume-key-file", key,
-                   stdin=(kinds / f"{VOLUME2}.key").read_bytes(), env={"LUKSRD_FILTER": str(filter)})
-    assert ended == (1, b"", "luksrd-rescue: --volume-key-file: is read twice, so it has to be a file\n")
 
 
 def test_in_a_partition(serve, kinds, tmp_path):
@@ -176,14 +167,6 @@ def test_typed(rescue, filter, kinds, tmp_path):
     assert not (tmp_path / "plain").exists()
 
 
-def test_wrong_passphrases(rescue, filter, kinds, tmp_path):
-    rescue.variables["LUKSRD_FILTER"] = str(filter)
-    ended = rescue("serve", kinds / VOLUME1, "plain", "--key-file", kinds / "wrong")
-    assert (ended.status, ended.output) == (2, b"")
-    assert "no key slot opens by this key file" in ended.message
-    assert not (tmp_path / "plain").exists()
-
-
 @needs("strace")
 def test_where_the_passphrase_goes(serve, kinds, tmp_path):
     """Through a pipe, and into no argument; nbdkit derives the key of the slot that has opened alone."""
@@ -202,38 +185,39 @@ def test_where_the_passphrase_goes(serve, kinds, tmp_path):
 # ---- refusals
 
 @pytest.mark.of_script
-@pytest.mark.parametrize("missing, message", [
-    ("nbdkit", "nbdkit: is not installed: run apt-get install nbdkit"),
-    ("nbdfuse", "nbdfuse: is not installed: run apt-get install libnbd-bin"),
-    ("fusermount3", "fusermount3: is not installed: run apt-get install fuse3")])
-def test_a_missing_program(rescue, kinds, tmp_path, missing, message):
-    script = ("import sys; sys.path.insert(0, sys.argv.pop(1)); from luksrd_rescue import tools, command; "
-              "found = tools.found; tools.found = lambda name: None if name == sys.argv[1] else found(name); "
-              "sys.exit(command.main(sys.argv[2:]))")
-    ended = run(sys.executable, "-c", script, TOP / "rescue", missing, "serve", kinds / VOLUME1, "plain",
-                env=rescue.variables, cwd=tmp_path)
-    assert ended == (1, b"", f"luksrd-rescue: {message}\n")
+@pytest.mark.parametrize("missing, package, words", [
+    ("nbdkit", "nbdkit", ["serve", "plain"]), ("nbdfuse", "libnbd-bin", ["serve", "plain"]),
+    ("fusermount3", "fuse3", ["serve", "plain"]), ("partx", "util-linux", ["look"]), ("blkid", "util-linux", ["look"])])
+def test_a_missing_program(rescue, kinds, tmp_path, missing, package, words):
+    ended = rescue.changed("found = tools.found", f"tools.found = lambda it: None if it == {missing!r} else found(it)")(
+        words[0], kinds / VOLUME1, *words[1:])
+    assert ended == (1, b"", f"luksrd-rescue: {missing}: is not installed: run apt-get install {package}\n")
     assert not (tmp_path / "plain").exists()
 
 
 @pytest.mark.of_script
 def test_no_filter(rescue, kinds):
-    script = ("import sys; sys.path.insert(0, sys.argv.pop(1)); from luksrd_rescue import tools, command; "
-              "tools.nbdkit_filter = lambda: None; sys.exit(command.main(sys.argv[1:]))")
-    ended = run(sys.executable, "-c", script, TOP / "rescue", "serve", kinds / VOLUME1, "plain", env=rescue.variables)
+    ended = rescue.changed("tools.nbdkit_filter = lambda: None")("serve", kinds / VOLUME1, "plain")
     assert ended == (1, b"", "luksrd-rescue: nbdkit: luksrd's filter is not installed: run apt-get install "
                      "nbdkit-plugin-luksrd, or make nbdkit in the sources\n")
 
 
-@pytest.mark.parametrize("make, message", [
-    (lambda path: (path.mkdir(), (path / "x").touch()), "plain: is not empty"),
-    (lambda path: path.touch(), "plain: Not a directory")])
-def test_folders(rescue, filter, kinds, tmp_path, make, message):
-    rescue.variables["LUKSRD_FILTER"] = str(filter)
-    make(tmp_path / "plain")
-    ended = rescue("serve", kinds / VOLUME1, "plain", "--key-file", kinds / "pass2")
-    assert (ended.status, ended.output) == (1, b"")
-    assert ended.message.startswith(f"luksrd-rescue: {message}"), ended
+ONCE = "luksrd-rescue: --volume-key-file: is read twice, so it has to be a file\n"
+
+
+@pytest.mark.parametrize("make, key, status, message", [
+    (lambda path: (path.mkdir(), (path / "x").touch()), "pass2", 1, "luksrd-rescue: plain: is not empty"),
+    (lambda path: path.touch(), "pass2", 1, "luksrd-rescue: plain: Not a directory"),
+    (None, "wrong", 2, "no key slot opens by this key file"),
+    *(pytest.param(None, key, 1, ONCE, marks=pytest.mark.of_script) for key in ("-", "/proc/self/fd/0"))])
+def test_refused(rescue, filter, kinds, tmp_path, make, key, status, message):
+    if make:
+        make(tmp_path / "plain")
+    words = ["--volume-key-file", key] if message == ONCE else ["--key-file", kinds / key]
+    ended = rescue("serve", kinds / VOLUME1, "plain", *words, env={"LUKSRD_FILTER": str(filter)},
+                   stdin=(kinds / f"{VOLUME1}.key").read_bytes())
+    says(ended, message, status=status)
+    assert ended.output == b"" and (tmp_path / "plain").exists() == bool(make)
 
 
 def test_a_folder_that_is_served(serve, rescue, kinds):
@@ -251,12 +235,3 @@ def test_a_server_that_does_not_begin(rescue, kinds, tmp_path):
     assert (ended.status, ended.output) == (6, b"")
     assert "luksrd-rescue: nbdkit: cannot serve the volume: " in ended.message and "filter.so" in ended.message
     assert not (tmp_path / "plain").exists()
-
-
-@pytest.mark.of_script
-@pytest.mark.parametrize("words", [["disk"], [], ["disk", "plain", "--key-slot", "32"],
-                                   ["disk", "plain", "--key-file", "a", "--volume-key-file", "b"]])
-def test_wrong_arguments(rescue, words):
-    ended = rescue("serve", *words)
-    assert (ended.status, ended.output) == (1, b"")
-    assert ended.message.startswith("usage: luksrd-rescue serve")

@@ -11,10 +11,9 @@ import pytest
 import volumes
 from disks import LUKS, MIB, disk, row
 from kinds import VOLUME1, VOLUME2
-from support import FULL, TOP, needs, run, wait_until
+from support import FULL, needs, run, wait_until
 from volumes import PASS, PASS2, by_qemu, copy_of, cryptsetup
 
-TREE = str(TOP / "rescue")
 # passphrases that a program could misread
 ODD = [b"a passphrase", b"-n %s \\t\\\\ \"$(id)\" '*", b" blanks ", b"\xc3\xbc", b"--help"]
 NONE = "luksrd-rescue: {}: none of {} lines opens the volume\n"
@@ -112,18 +111,6 @@ def test_in_a_partition(tries, volume_of, tmp_path):
     assert (ended.status, ended.message) == (4, "luksrd-rescue: disk: there is no LUKS header\n")
 
 
-def test_several_volumes(tries, volume_of, tmp_path):
-    """They are listed, and none is tried."""
-    content = volume_of(0).read_bytes()
-    disk(tmp_path / "disk", "dos", [row(MIB, 4 * MIB, "83"), row(6 * MIB, 4 * MIB, "83")],
-         {MIB: content, 6 * MIB: content})
-    ended = tries(image="disk")
-    assert (ended.status, ended.output) == (1, b"")
-    first, *rest = ended.message.splitlines()
-    assert first == "luksrd-rescue: disk: it has 2 LUKS volumes; add one of"
-    assert [line.strip().partition(":")[0] for line in rest] == ["--partition 1", "--partition 2"]
-
-
 def test_a_pipe_and_a_last_line_without_a_newline(tries):
     ended = opens(tries(lines="-", stdin=ODD[0]), 1)
     assert ended.output == b"line 1 opens key slot 0\n"
@@ -191,16 +178,6 @@ def test_iterations(tries, kinds):
 
 
 @pytest.mark.of_script
-@pytest.mark.parametrize("words", [["volume"], ["volume", "--candidates", "lines", "--jobs", "0"],
-                                   ["volume", "--candidates", "lines", "--key-slot", "32"], ["--candidates", "lines"],
-                                   ["volume", "--candidates", "lines", "--max-iterations", "0"]])
-def test_wrong_arguments(rescue, words):
-    ended = rescue("try", *words)
-    assert (ended.status, ended.output) == (1, b"")
-    assert ended.message.startswith("usage: luksrd-rescue try")
-
-
-@pytest.mark.of_script
 @pytest.mark.parametrize("file, message", [("absent", "cannot open: No such file or directory"),
                                            ("/", "cannot open: Is a directory")])
 def test_candidates_that_cannot_be_opened(tries, file, message):
@@ -258,37 +235,41 @@ def busy(process):
         return int(file.read().rpartition(")")[2].split()[11]) > os.sysconf("SC_CLK_TCK") // 2
 
 
-def test_memory(rescue, kinds, tmp_path):
-    """As many at once as there is memory for; a line for which it runs out is tried again."""
-    script = ("import sys; sys.path.insert(0, sys.argv.pop(1)); from luksrd_rescue import trying, unlocking, command\n"
-              "room = int(sys.argv.pop(1)) << 20; unlocking.available_memory = lambda: room\n"
-              "run = trying._Run.__init__\n"
-              "def noted(self, file, arguments, attempt, jobs, state):\n"
-              "    print('jobs', jobs, flush=True); run(self, file, arguments, attempt, jobs, state)\n"
-              "trying._Run.__init__ = noted\n"
-              "sys.exit(command.main(sys.argv[1:]))")
+JOBS = ["run = trying._Run.__init__",
+        "def noted(self, file, arguments, attempt, jobs, state):",
+        "    print('jobs', jobs, flush=True); run(self, file, arguments, attempt, jobs, state)",
+        "trying._Run.__init__ = noted"]
+MANY = len(os.sched_getaffinity(0))
+
+
+@pytest.mark.parametrize("memory, rooms", [(None, {1000: MANY, 5: 1, 1: 1}), (64, {1000: MANY, 140: min(2, MANY), 1: 1})],
+                         ids=["PBKDF2", "Argon2id"])
+def test_memory(rescue, kinds, tmp_path, memory, rooms):
+    """As many at once as there is memory for: Argon2 needs its own for each."""
+    image, slot = (kinds / VOLUME1, 5) if memory is None else (copy_of(kinds / VOLUME2, tmp_path / "disk.img"), 1)
+    if memory is not None:
+        cryptsetup(f"luksConvertKey --key-slot 1 --pbkdf argon2id --pbkdf-memory {memory << 10} --pbkdf-parallel 1 "
+                   "--pbkdf-force-iterations 4 --key-file pass2", image, cwd=volumes.passphrases(tmp_path))
     (tmp_path / "lines").write_bytes(b"wrong\n" + PASS2)
-    for room, jobs in (1000, len(os.sched_getaffinity(0))), (5, 1), (1, 1):
-        ended = run("/usr/bin/python3", "-c", script, TREE, str(room), "try", kinds / VOLUME1, "--candidates", "lines",
-                    "--quiet", env=rescue.variables, cwd=tmp_path)
-        assert ended.status == 0 and ended.output.startswith(b"jobs %d\nline 2 opens key slot 5\n" % jobs), ended
+    for room, jobs in rooms.items():
+        ended = rescue.changed(f"unlocking.available_memory = lambda: {room} << 20", *JOBS)(
+            "try", image, "--candidates", "lines", "--quiet")
+        assert ended.status == 0 and ended.output.startswith(b"jobs %d\nline 2 opens key slot %d\n" % (jobs, slot)), ended
         assert ("warning: each try needs" in ended.message) == (room == 1)
 
 
 def test_memory_that_runs_out(rescue, kinds, tmp_path):
     """It goes on with fewer lines at once, and ends with 3 if one alone has too little."""
-    script = ("import sys, threading; sys.path.insert(0, sys.argv.pop(1)); from luksrd_rescue import trying, command\n"
-              "import luksrd; real = luksrd.open; lock = threading.Semaphore(int(sys.argv.pop(1)))\n"
-              "def opens(*a, **k):\n"
-              "    if not lock.acquire(blocking=False):\n"
-              "        raise luksrd.LuksError(11, 3, 'luksrd: out of memory')\n"
-              "    try:\n        return real(*a, **k)\n    finally:\n        lock.release()\n"
-              "trying.luksrd.open = opens\n"
-              "sys.exit(command.main(sys.argv[1:]))")
+    lines = ["import threading, luksrd; real = luksrd.open",
+             "def opens(*a, **k):",
+             "    if not lock.acquire(blocking=False):",
+             "        raise luksrd.LuksError(11, 3, 'luksrd: out of memory')",
+             "    try:\n        return real(*a, **k)\n    finally:\n        lock.release()",
+             "trying.luksrd.open = opens"]
     (tmp_path / "lines").write_bytes(b"wrong\n" * 20 + PASS2)
     for room, status in (1, 0), (2, 0), (0, 3):
-        ended = run("/usr/bin/python3", "-c", script, TREE, str(room), "try", kinds / VOLUME1, "--candidates", "lines",
-                    "--quiet", "--jobs", "4", "--state", f"state{room}", env=rescue.variables, cwd=tmp_path)
+        ended = rescue.changed(*lines, f"lock = threading.Semaphore({room})")(
+            "try", kinds / VOLUME1, "--candidates", "lines", "--quiet", "--jobs", "4", "--state", f"state{room}")
         assert ended.status == status, ended
         if status == 0:
             assert ended.output.startswith(b"line 21 opens key slot 5\n")

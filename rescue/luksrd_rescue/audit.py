@@ -16,7 +16,10 @@ PIECE = 1 << 16
 SECTOR = 512
 # The length of a LUKS1 header
 HEADER1_BYTES = 592
-KIB = 1024
+KIB, MIB = 1024, 1 << 20
+# The library's default limits for Argon2, the memory of a slot and what it fills in all passes, and
+# its greatest limits, of so many KiB and MiB
+ARGON2_MEMORY, ARGON2_FILL, GREATEST = 4 << 30, 64 << 30, 0xFFFFFFFF
 
 # What tokens need, by their types; a slot with another token opens with what that is for
 TOKENS = {"systemd-tpm2": "TPM2", "systemd-fido2": "FIDO2", "systemd-pkcs11": "PKCS#11 card",
@@ -29,8 +32,8 @@ PASSPHRASE_TOKENS = {"systemd-recovery": "a recovery key, typed as a passphrase 
 REASONS = {
     "type": "it is of an unknown type",
     "member": "its metadata is damaged",
-    "argon2i": "this version of luksrd does not derive keys by Argon2i",
-    "argon2id": "this version of luksrd does not derive keys by Argon2id",
+    "argon2i": "what it says of Argon2i, or of its key area, is damaged",
+    "argon2id": "what it says of Argon2id, or of its key area, is damaged",
     "kdf": "luksrd does not know how its key is derived",
     "hash": "luksrd does not know its hash function",
     "encryption": "luksrd does not know the cipher of its key area",
@@ -40,7 +43,6 @@ REASONS = {
     "area": "its key area is out of range",
     "digest": "no digest of the volume key goes with it",
     "state": "its state is damaged",
-    "memory": "it needs too much memory",
 }
 
 # Why luksrd cannot read a payload
@@ -70,6 +72,14 @@ FINDINGS = {
 }
 
 
+def _member(name: str, default: Any) -> Any:
+    """A property: the member of this name, or the default if it is of another type."""
+    def value(self: Any) -> Any:
+        found = self.raw.get(name)
+        return found if isinstance(found, type(default)) else default
+    return property(value)
+
+
 class Slot(NamedTuple):
     """A key slot: `raw` is its object in luksrd-audit's line, `tokens` the types of its tokens, and
     `is_detached` whether the payload is elsewhere, before which its key area need not end."""
@@ -78,57 +88,67 @@ class Slot(NamedTuple):
     tokens: tuple[str, ...]
     is_detached: bool = False
 
-    def _number(self, name: str) -> int:
-        value = self.raw.get(name)
-        return value if isinstance(value, int) else 0
-
-    @property
-    def number(self) -> int:
-        return self._number("number")
+    number = _member("number", 0)
+    priority = _member("priority", 1)
+    kdf = _member("kdf", "")
+    iterations = _member("iterations", 0)
+    passes = _member("time", 0)
+    area_offset = _member("area_offset", 0)
 
     @property
     def can_try(self) -> bool:
-        """Whether the library can derive its key from a passphrase. (`can_try` is about the program
-        luksrd, which derives none by Argon2.)"""
-        if "library_can_try" in self.raw:
-            return bool(self.raw["library_can_try"])
-        reason = self.raw.get("reason")
-        if reason in ("argon2i", "argon2id"):
-            return tools.has_argon2()
-        # (luksrd-audit takes each header for one before its payload; the library decides)
-        return bool(self.raw.get("can_try")) or reason == "area" and self.is_detached
+        """Whether the library can derive its key from a passphrase, if it may cost what it does.
+        (`can_try` is about the program luksrd, which derives none by Argon2.)"""
+        if self.is_detached and (self.is_argon2 or self.raw.get("reason") == "area"):
+            # (luksrd-audit takes each header for one before its payload; the library decides)
+            return True
+        if self.is_argon2:
+            return self.is_over_limits or bool(self.raw.get("library_can_try", True))
+        return bool(self.raw.get("can_try"))
+
+    @property
+    def is_argon2(self) -> bool:
+        """Whether it is one by Argon2, of which luksrd has looked no further."""
+        return self.raw.get("reason") in ("argon2i", "argon2id")
+
+    @property
+    def is_over_limits(self) -> bool:
+        """Whether Argon2 costs more than the library allows by itself: then a slot is tried only if
+        it is named."""
+        return self.memory > ARGON2_MEMORY or self._fill > ARGON2_FILL
+
+    @property
+    def limits(self) -> dict[str, int]:
+        """What luksrd.open has to be told for it to allow what the slot costs."""
+        if not self.is_over_limits:
+            return {}
+        return {"argon2_memory": self.memory,
+                "argon2_fill": min(-(-self._fill // MIB), GREATEST) * MIB}
+
+    @property
+    def _fill(self) -> int:
+        """The bytes of memory that Argon2 fills in all passes."""
+        return self.memory * self.passes
+
+    @property
+    def is_by_itself(self) -> bool:
+        """Whether it is tried although it is not named."""
+        return self.can_try and self.priority > 0 and not self.is_over_limits
 
     @property
     def is_used(self) -> bool:
         return self.raw.get("state") != "disabled"
 
     @property
-    def priority(self) -> int:
-        value = self.raw.get("priority")
-        return value if isinstance(value, int) else 1
-
-    @property
-    def kdf(self) -> str:
-        return str(self.raw.get("kdf") or "")
-
-    @property
-    def iterations(self) -> int:
-        return self._number("iterations")
-
-    @property
     def memory(self) -> int:
         """The bytes that its key derivation needs; 0 for PBKDF2."""
-        return self._number("memory") * KIB
-
-    @property
-    def area_offset(self) -> int:
-        return self._number("area_offset")
+        return (self.raw.get("memory") or 0) * KIB
 
     @property
     def area_length(self) -> int:
         """The bytes of its key material in whole sectors, or of its area if that is unknown."""
-        material = self._number("key_bytes") * self._number("stripes")
-        return -(-material // SECTOR) * SECTOR or self._number("area_size")
+        key, stripes, area = (self.raw.get(it) or 0 for it in ("key_bytes", "stripes", "area_size"))
+        return -(-key * stripes // SECTOR) * SECTOR or area
 
     @property
     def device(self) -> Optional[str]:
@@ -148,8 +168,8 @@ class Slot(NamedTuple):
         if not self.kdf.startswith("argon2"):
             name = shown(str(self.raw.get("hash") or "?"))
             return f"{self.kdf.upper() or '?'}, {name}, {self.iterations:,} iterations"
-        passes = self._number("time")
-        return f"{self.kdf.capitalize()}, {sized(self.memory)}, {passes} pass{'es' * (passes != 1)}"
+        passes = f"{self.passes:,} pass{'es' * (self.passes != 1)}"
+        return f"{self.kdf.capitalize()}, {sized(self.memory)}, {passes}"
 
     @property
     def words(self) -> str:
@@ -160,7 +180,7 @@ class Slot(NamedTuple):
         if self.device:
             return f"needs a token ({self.device})"
         means = [PASSPHRASE_TOKENS[kind] for kind in self.tokens if kind in PASSPHRASE_TOKENS]
-        only = f", only by --key-slot {self.number}" if self.priority == 0 else ""
+        only = "" if self.is_by_itself else f", only by --key-slot {self.number}"
         return f"opens with {(means or ['a passphrase'])[0]}{only} ({self.cost})"
 
 
@@ -172,33 +192,13 @@ class Found(NamedTuple):
     offset: int
     is_apart: bool = False
 
-    def _number(self, name: str) -> int:
-        value = self.raw.get(name)
-        return value if isinstance(value, int) else 0
-
-    @property
-    def version(self) -> int:
-        return self._number("version")
-
-    @property
-    def uuid(self) -> str:
-        return str(self.raw.get("uuid") or "")
-
-    @property
-    def label(self) -> str:
-        return str(self.raw.get("label") or "")
-
-    @property
-    def cipher(self) -> str:
-        return str(self.raw.get("cipher") or "")
-
-    @property
-    def sector_size(self) -> int:
-        return self._number("sector_size") or SECTOR
-
-    @property
-    def iv_tweak(self) -> int:
-        return self._number("iv_tweak")
+    version = _member("version", 0)
+    uuid = _member("uuid", "")
+    label = _member("label", "")
+    cipher = _member("cipher", "")
+    sector_size = _member("sector_size", SECTOR)
+    iv_tweak = _member("iv_tweak", 0)
+    tokens = _member("tokens", [])
 
     @property
     def segment_offset(self) -> Optional[int]:
@@ -218,10 +218,6 @@ class Found(NamedTuple):
         return self.is_apart or self.segment_offset == 0
 
     @property
-    def tokens(self) -> list[dict[str, Any]]:
-        return [each for each in self.raw.get("tokens") or [] if isinstance(each, dict)]
-
-    @property
     def slots(self) -> list[Slot]:
         """The key slots that are in use."""
         slots = [Slot(each, self._types_for(each), self.is_detached)
@@ -237,7 +233,7 @@ class Found(NamedTuple):
     @property
     def header_length(self) -> int:
         """The bytes of the header, or of both headers of LUKS2."""
-        return 2 * self._number("header_size") if self.version == 2 else HEADER1_BYTES
+        return 2 * self.raw.get("header_size", 0) if self.version == 2 else HEADER1_BYTES
 
     @property
     def head_length(self) -> int:
@@ -257,9 +253,7 @@ class Found(NamedTuple):
     @property
     def all_findings(self) -> list[str]:
         """What is wrong with the header, and what luksrd does not support, as luksCheck has it."""
-        listed = [*(self.raw.get("findings") or []), *(self.raw.get("unsupported") or [])]
-        return [each if isinstance(each, str) else f"{each.get('place')}: {each.get('name')}"
-                for each in listed]
+        return [*(self.raw.get("findings") or []), *(self.raw.get("unsupported") or [])]
 
     @property
     def damage(self) -> list[str]:

@@ -10,7 +10,7 @@ import re
 import signal
 import sys
 import traceback
-from typing import Iterator, NoReturn, Optional, Sequence
+from typing import Callable, Iterator, NoReturn, Optional, Sequence
 
 from . import __version__
 
@@ -101,6 +101,17 @@ class _Parser(argparse.ArgumentParser):
         self.print_usage(sys.stderr)
         say("", f"{shown(message)}; {self.prog} --help explains")
         self.exit(USAGE)
+
+
+def subcommand(subparsers: argparse._SubParsersAction, name: str,
+               run: Callable[[argparse.Namespace], int], examples: str, summary: str,
+               description: str) -> argparse.ArgumentParser:
+    """Adds a command for an image to those of luksrd-rescue."""
+    parser = subparsers.add_parser(name, help=summary, epilog=examples, description=description)
+    parser.add_argument("image", metavar="IMAGE",
+                        help="a file or a device: a whole disk or a volume")
+    parser.set_defaults(run=run)
+    return parser
 
 
 # The subcommands, and the modules that have them

@@ -158,6 +158,7 @@ class _Named:
 
     def __init__(self, path: str, source) -> None:
         self.path, self.size, self.pread_into = path, source.size, source.pread_into
+        self.sector = partitions.SECTOR
 
 
 def lines(found: Contents, decrypt: str = "luksrd-rescue decrypt IMAGE",

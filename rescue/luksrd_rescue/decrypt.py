@@ -9,7 +9,8 @@ import re
 from typing import NamedTuple, Optional
 
 from . import choosing, maps, resuming, terminal, unlocking, working
-from .command import (FAILED, IMAGE, INTERRUPTED, USAGE, Refusal, number, say, shown, sized)
+from .command import (FAILED, IMAGE, INTERRUPTED, USAGE, Refusal, number, say, shown, sized,
+                      subcommand)
 from .image import Image, Loaded, open_image
 from .words import quoted
 from .writing import Kept, Output, Target
@@ -49,20 +50,17 @@ def _range(word: str) -> tuple[int, int]:
 
 def register(subparsers: argparse._SubParsersAction) -> None:
     """Adds the subcommand to the command line."""
-    parser = subparsers.add_parser(
-        "decrypt", help="write the plaintext of a volume into a file", epilog=EXAMPLES,
-        usage="luksrd-rescue decrypt IMAGE -o FILE [OPTION ..]",
-        description="Decrypt a LUKS volume in an image or a device, past bad sectors. FILE is\n"
+    parser = subcommand(
+        subparsers, "decrypt", run, EXAMPLES, "write the plaintext of a volume into a file",
+        "Decrypt a LUKS volume in an image or a device, past bad sectors. FILE is\n"
         "made when a key has opened the volume; until all is done, FILE.map notes what is.")
-    parser.add_argument("image", metavar="IMAGE",
-                        help="a file or a device: a whole disk or a volume")
+    parser.usage = "luksrd-rescue decrypt IMAGE -o FILE [OPTION ..]"
     parser.add_argument("-o", "--output", metavar="FILE", required=True,
                         help="a new file; - is standard output; a device needs --force")
     choosing.add_options(parser)
     unlocking.add_options(parser)
     _add_part_options(parser)
     _add_running_options(parser)
-    parser.set_defaults(run=run)
 
 
 def _add_part_options(parser: argparse.ArgumentParser) -> None:

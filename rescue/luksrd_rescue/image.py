@@ -184,6 +184,7 @@ class Patched:
     def __init__(self, image: Image) -> None:
         self._image = image
         self.path, self.size, self.is_device = image.path, image.size, image.is_device
+        self.sector = image.sector
         self.lost: list[Lost] = []
 
     def pread_into(self, view: memoryview, offset: int) -> int:

@@ -23,7 +23,7 @@ def register(subparsers) -> None:
     parser = subparsers.add_parser(
         "look", help="print what is in an image, and what to type next", epilog=EXAMPLES,
         description="Print what is in images or devices, and what to type next. Nothing is opened "
-        "or written.", formatter_class=argparse.RawDescriptionHelpFormatter)
+        "or written.")
     parser.add_argument("--json", action="store_true", help="an object for each image, on a line")
     parser.add_argument("--search", action="store_true",
                         help="search all of the image for headers, whatever its table says")
@@ -61,7 +61,7 @@ class Reader:
 
     def __init__(self, image) -> None:
         self._image = image
-        self.path, self.size = image.path, image.size
+        self.path, self.size, self.sector = image.path, image.size, image.sector
 
     def pread_into(self, view: memoryview, offset: int) -> int:
         """Fills the view from this byte on."""
@@ -280,10 +280,13 @@ def steps(report: Report) -> list[Step]:
 
 def _volume_steps(report: Report, volume: choosing.Volume, must_choose: bool) -> list[Step]:
     """What to do with a volume: decrypt it if there is room, and serve it otherwise."""
-    options = volume.options() if must_choose or report.searched else ""
-    image = f"{quoted(report.path)} {options}".rstrip()
-    if volume.facts.fault or not any(slot.opens for slot in volume.facts.slots):
+    slots = [slot for slot in volume.facts.slots if slot.opens]
+    if volume.facts.fault or not slots:
         return []
+    options = [volume.options()] if must_choose or report.searched else []
+    if not any(slot.is_by_itself for slot in slots):
+        options.append(f"--key-slot {slots[0].number}")
+    image = " ".join([quoted(report.path), *filter(None, options)])
     plain, folder = contents.free_name("plain.img"), contents.free_name("plain")
     decrypt = Step(f"Decrypt {volume.words()} into a file",
                    f"luksrd-rescue decrypt {image} -o {plain}")

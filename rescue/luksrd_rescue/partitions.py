@@ -55,13 +55,13 @@ class Partition(NamedTuple):
 
 def partitions(image) -> list[Partition]:
     """The partitions in the table of an image, by ascending number; none if it has no table."""
-    found = _most(_listed(image.path, size) for size in SECTOR_SIZES)
-    return found or _truncated_gpt(image)
+    sizes = sorted(SECTOR_SIZES, key=lambda size: size != image.sector)
+    return _most(_listed(image.path, size) for size in sizes) or _truncated_gpt(image)
 
 
 def _most(tables: Iterable[list[Partition]]) -> list[Partition]:
     """The longest of the tables, and the first of several: by the wrong size of a sector a GPT has
-    no partitions, and an MBR no logical ones."""
+    no partitions, and an MBR no logical ones. (Of an MBR without these only a device says it.)"""
     return max(tables, key=len)
 
 

@@ -15,7 +15,7 @@ import time
 from typing import Iterator, NamedTuple, Optional
 
 from . import choosing, contents, terminal, tools, unlocking
-from .command import FAILED, USAGE, Refusal, say
+from .command import FAILED, USAGE, Refusal, say, subcommand
 from .image import open_image
 from .words import quoted
 
@@ -33,12 +33,10 @@ ENDING = (signal.SIGINT, signal.SIGTERM, signal.SIGHUP)
 
 def register(subparsers) -> None:
     """Adds the command to those of luksrd-rescue."""
-    parser = subparsers.add_parser(
-        "serve", help="show the plaintext as a file, without a copy", epilog=EXAMPLES,
-        description="Show the plaintext of a volume as the read-only file DIR/plain, until Ctrl-C "
-        "or `umount DIR`. It needs nbdkit, nbdfuse and luksrd's filter for nbdkit.",
-        formatter_class=argparse.RawDescriptionHelpFormatter)
-    parser.add_argument("image", metavar="IMAGE")
+    parser = subcommand(
+        subparsers, "serve", run, EXAMPLES, "show the plaintext as a file, without a copy",
+        "Show the plaintext of a volume as the read-only file DIR/plain, until Ctrl-C or "
+        "`umount DIR`.\nIt needs nbdkit, nbdfuse and luksrd's filter for nbdkit.")
     parser.add_argument("folder", metavar="DIR",
                         help="an empty folder, or one that is not there yet")
     parser.add_argument("--image-map", metavar="FILE",
@@ -46,7 +44,6 @@ def register(subparsers) -> None:
     parser.add_argument("--quiet", action="store_true", help="show no progress")
     choosing.add_options(parser)
     unlocking.add_options(parser)
-    parser.set_defaults(run=run)
 
 
 class Programs(NamedTuple):
@@ -158,28 +155,29 @@ class _Parameters:
                 *self._header(), *parameters]
 
     def _key(self, key_file: str) -> list[str]:
+        facts, opened = self._volume.facts, self._opened.key_slot
         if self._arguments.volume_key_file is None:
-            return [f"key-file={key_file}", f"key-slot={self._opened.key_slot}"]
-        geometry = unlocking.geometry(self._arguments, self._volume.facts, self._image.path)
-        named = {name.replace("_", "-"): value for name, value in geometry.items()
-                 if value is not None}
-        return [f"volume-key-file={key_file}",
-                *(f"{name}={value}" for name, value in named.items())]
+            limits = next(slot.limits for slot in facts.slots if slot.number == opened)
+            return [f"key-file={key_file}", *_words({"key_slot": opened, **limits})]
+        geometry = unlocking.geometry(self._arguments, facts, self._image.path)
+        return [f"volume-key-file={key_file}", *_words(geometry)]
 
     def _header(self) -> list[str]:
         """The detached header, or a copy of one that cannot be read as a whole, in memory."""
-        name, facts = self._arguments.header, self._volume.facts
-        if facts is None:
+        name = self._arguments.header
+        if self._volume.facts is None:
             return []
-        if name is not None:
-            with open_image(name) as header:
-                head = unlocking.head_of(header, 0, None, facts)
-        else:
-            head = unlocking.head_of(self._image, self._volume.offset, self._volume.length, facts)
-            if not head.lost:
-                return []
+        head = unlocking.head_of(self._image, self._volume, name)
+        if name is None and not head.lost:
+            return []
         self.kept.append(int(os.path.basename(unlocking.in_memory(head.content, self._cleanup))))
         return [f"header=/dev/fd/{self.kept[-1]}"]
+
+
+def _words(values: dict[str, object]) -> list[str]:
+    """These as parameters of nbdkit, but for those that are None."""
+    return [f"{name.replace('_', '-')}={value}" for name, value in values.items()
+            if value is not None]
 
 
 class _Server:

@@ -1,7 +1,5 @@
 """The programs and the module that luksrd-rescue calls: where they are, and how they are run."""
 
-import functools
-import inspect
 import os
 import pathlib
 import shutil
@@ -88,14 +86,6 @@ def prepare_library() -> None:
     built = TREE / "out/libluksrd.so"
     if built.exists():
         os.environ.setdefault("LUKSRD_LIBRARY", str(built))
-
-
-@functools.lru_cache(maxsize=None)
-def has_argon2() -> bool:
-    """Whether the module derives keys by Argon2."""
-    prepare_library()
-    import luksrd  # pylint: disable=import-outside-toplevel
-    return "argon2" in inspect.signature(luksrd.open).parameters
 
 
 def nbdkit_filter() -> Optional[str]:

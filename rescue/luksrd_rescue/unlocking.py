@@ -113,20 +113,8 @@ class _Attempt:
         self._image, self._volume, self._arguments = image, volume, arguments
         self._source, self._is_quiet = source, getattr(arguments, "quiet", False)
         self._facts, self._slots = volume.facts, []
-        self._head = self._header_file = None
-        if arguments.header is None:
-            self._head = head_of(image, volume.offset, volume.length, self._facts)
-        else:
-            with open_image(arguments.header) as header:
-                self._head = head_of(header, 0, None, self._facts)
-            self._header_file = in_memory(self._head.content, cleanup)
-
-    def _part(self) -> dict[str, object]:
-        """The arguments that say where the volume and its header are."""
-        part = {"offset": self._volume.offset, "length": self._volume.length}
-        if self._header_file:
-            return part | {"header": self._header_file}
-        return part | {"head": self._head.content}
+        self._head = head_of(image, volume, arguments.header)
+        self._part = part_of(volume, self._head, arguments.header, cleanup)
 
     def prepare(self) -> None:
         """Chooses the key slots to try, and says which are left out, or refuses if none is left."""
@@ -147,7 +135,7 @@ class _Attempt:
         """The slots that can be tried, in luksrd's order, or the one that is named."""
         wanted = self._arguments.key_slot
         if wanted is None:
-            return sorted((it for it in facts.slots if it.can_try and it.priority > 0),
+            return sorted((it for it in facts.slots if it.is_by_itself),
                           key=lambda it: (-it.priority, it.number))
         for slot in facts.slots:
             if slot.number == wanted and not slot.can_try:
@@ -191,33 +179,31 @@ class _Attempt:
 
     def by_key_file(self, secret: bytearray) -> Unlocked:
         """Opens the volume by these bytes."""
-        try:
-            found = self._try(secret)
-        except BaseException:
-            terminal.wipe(secret)
-            raise
+        why = f"; {NEWLINE}" if secret.endswith(b"\n") else ""
+        found = self._by_passphrase(secret)
         if found:
-            return Unlocked(found, secret, self._facts.segment_offset or 0)
-        ends_with_newline = secret.endswith(b"\n")
-        terminal.wipe(secret)
-        why = f"; {NEWLINE}" if ends_with_newline else ""
+            return found
         raise Refusal(NO_KEY, self._image.path,
                       f"no key slot opens by this key file{self._left_out()}{why}")
 
     def by_typing(self) -> Unlocked:
         """Opens the volume by a passphrase that is asked for, three times at most."""
         for _ in range(TRIES):
-            secret = terminal.ask(f"Passphrase of {self._name()}: ")
-            try:
-                found = self._try(secret)
-            except BaseException:
-                terminal.wipe(secret)
-                raise
+            found = self._by_passphrase(terminal.ask(f"Passphrase of {self._name()}: "))
             if found:
-                return Unlocked(found, secret, self._facts.segment_offset or 0)
-            terminal.wipe(secret)
+                return found
             say(self._image.path, f"no key slot opens by this passphrase{self._left_out()}")
         raise Refusal(NO_KEY, "", KEYBOARD)
+
+    def _by_passphrase(self, secret: bytearray) -> Optional[Unlocked]:
+        """The open volume with the passphrase, which is overwritten if it opens none."""
+        found = None
+        try:
+            found = self._try(secret)
+        finally:
+            if not found:
+                terminal.wipe(secret)
+        return Unlocked(found, secret, self._facts.segment_offset or 0) if found else None
 
     def _name(self) -> str:
         """The volume as the prompt names it."""
@@ -259,7 +245,7 @@ class _Attempt:
                 # (the volume itself says so at the end)
                 warnings.simplefilter("ignore", luksrd.IncompleteImageWarning)
                 return luksrd.open(self._source, passphrase=secret, key_slot=slot.number,
-                                   **self._part())
+                                   **slot.limits, **self._part)
         return opened
 
     def by_volume_key(self) -> Unlocked:
@@ -278,7 +264,7 @@ class _Attempt:
                 warnings.simplefilter("always")
                 try:
                     found = luksrd.open_by_volume_key(self._source, volume_key=secret, **numbers,
-                                                      **self._part())
+                                                      **self._part)
                 except luksrd.WrongKeyError as error:
                     raise Refusal(NO_KEY, self._image.path,
                                   "the volume key is not that of the header") from error
@@ -331,8 +317,25 @@ def available_memory() -> Optional[int]:
     return None
 
 
-def head_of(image: Image, offset: int, length: Optional[int], facts: Optional[Found]) -> Head:
-    """The headers and key areas of a volume, with zeros for what cannot be read."""
+def head_of(image: Image, volume: choosing.Volume, header: Optional[str]) -> Head:
+    """The headers and key areas of a volume, or of the file with its header, with zeros for what
+    cannot be read."""
+    if header is None:
+        return _head_of(image, volume.offset, volume.length, volume.facts)
+    with open_image(header) as file:
+        return _head_of(file, 0, None, volume.facts)
+
+
+def part_of(volume: choosing.Volume, head: Head, header: Optional[str],
+            cleanup: contextlib.ExitStack) -> dict[str, object]:
+    """The arguments of luksrd.open that say where a volume and its header are."""
+    part = {"offset": volume.offset, "length": volume.length}
+    if header is None:
+        return part | {"head": head.content}
+    return part | {"header": in_memory(head.content, cleanup)}
+
+
+def _head_of(image: Image, offset: int, length: Optional[int], facts: Optional[Found]) -> Head:
     patched = image.patched()
     end = image.size if length is None else min(image.size, offset + length)
     wanted = facts.head_length if facts else HEADER_BYTES

@@ -74,11 +74,34 @@ def zero_runs(view: memoryview, offset: int) -> Iterator[tuple[int, int, bool]]:
         yield start, len(view), False
 
 
-class FileOutput:
-    """A regular file, as long as the plaintext from its creation on."""
+class DeviceOutput:
+    """A block device, which gets zeros, too."""
+
+    def __init__(self, path: str, descriptor: int) -> None:
+        self.path, self._file = path, descriptor
+
+    def write(self, view: memoryview, offset: int) -> None:
+        """Writes all of it."""
+        _write_all(self._file, view, offset)
+
+    def flush(self) -> None:
+        """What was written is on the disk."""
+        os.fdatasync(self._file)
+
+    def close(self) -> None:
+        """All is on the disk, with the length and the name of a file."""
+        try:
+            os.fsync(self._file)
+        finally:
+            os.close(self._file)
+
+
+class FileOutput(DeviceOutput):
+    """A regular file, as long as the plaintext from its creation on, with holes for zeros."""
 
     def __init__(self, path: str, descriptor: int, is_new: bool) -> None:
-        self.path, self._file, self._is_new = path, descriptor, is_new
+        super().__init__(path, descriptor)
+        self._is_new = is_new
 
     def write(self, view: memoryview, offset: int) -> None:
         """Writes what is not zeros: the rest of a new file is zeros."""
@@ -95,39 +118,6 @@ class FileOutput:
         except OSError as error:
             # (nothing but a hole up to the end of the file)
             return error.errno != errno.ENXIO
-
-    def flush(self) -> None:
-        """What was written is on the disk."""
-        os.fdatasync(self._file)
-
-    def close(self) -> None:
-        """The file, its length and its name are on the disk."""
-        try:
-            os.fsync(self._file)
-        finally:
-            os.close(self._file)
-
-
-class DeviceOutput:
-    """A block device, which gets zeros, too."""
-
-    def __init__(self, path: str, descriptor: int) -> None:
-        self.path, self._file = path, descriptor
-
-    def write(self, view: memoryview, offset: int) -> None:
-        """Writes all of it."""
-        _write_all(self._file, view, offset)
-
-    def flush(self) -> None:
-        """What was written is on the disk."""
-        os.fdatasync(self._file)
-
-    def close(self) -> None:
-        """All is on the disk."""
-        try:
-            os.fsync(self._file)
-        finally:
-            os.close(self._file)
 
 
 class PipeOutput:
