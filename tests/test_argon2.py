@@ -11,7 +11,7 @@ from argon2_slots import Cost, rewrite
 from serving import connected, read
 from support import NO_KEY, TOP, expect, must, needs, run, runs_v3
 from test_plugin import found
-from volumes import PASS, PASS2, copy_of, cryptsetup
+from volumes import PASS, copy_of, cryptsetup
 
 pytestmark = needs("argon2", "cryptsetup", "gcc", "nbdkit", "nbdcopy")
 SKIPPED = "luksrd: no key slot can be tried; skipped: 0 ({})"
@@ -376,17 +376,15 @@ def test_refused_memory(way, image):
     assert way(image, "pass2", before=LITTLE) == PLAIN
 
 
-def of_one_gib(volume, tmp_path):
-    return convert(copy_of(volume("argon2id, 64 MiB"), tmp_path / "large"), Cost("argon2id", 4, 1 << 20, 4))
+def large(volume, tmp_path, kib):
+    return convert(copy_of(volume("argon2id, 64 MiB"), tmp_path / "large"), Cost("argon2id", 4, kib, 4))
 
 
 @pytest.mark.parametrize("kib", [32, 65536, 1 << 20])
 def test_memory_of_opening(program, volume, tmp_path, kib):
     """The slot's own and 16 MB."""
-    if kib == 1 << 20:
-        image = of_one_gib(volume, tmp_path)
-    else:
-        image = volume(f"argon2id, {'64 MiB' if kib == 65536 else '32 KiB'}")
+    made = {32: "argon2id, 32 KiB", 65536: "argon2id, 64 MiB"}
+    image = volume(made[kib]) if kib in made else large(volume, tmp_path, kib)
     ended = run(*program, "memory", image, volumes.passphrases(tmp_path) / "pass", stdin=b"\n\n")
     used = int(ended.output.split()[0])
     assert (ended.status, ended.output.split()[1]) == (0, b"wiped")
@@ -394,10 +392,10 @@ def test_memory_of_opening(program, volume, tmp_path, kib):
     assert kib < 1024 or used >= kib, "the memory was not filled"
 
 
-@pytest.mark.parametrize("name", ["C, x86-64-v3", "plugin"])
-def test_one_gib(name, program, library, plugin, filter, volume, tmp_path):
+@pytest.mark.parametrize("name, gib", [("C, x86-64-v3", 2), ("plugin", 1)])
+def test_much_memory(name, gib, program, library, plugin, filter, volume, tmp_path):
     way = make_way(name, program, library, plugin, filter, tmp_path)
-    assert way(of_one_gib(volume, tmp_path)) == PLAIN
+    assert way(large(volume, tmp_path, gib << 20)) == PLAIN
 
 
 @pytest.fixture(params=[Cost("argon2id", 2, 40, 5), Cost("argon2i", 3, 65536, 1)], ids=["40 KiB", "64 MiB"])

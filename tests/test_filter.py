@@ -13,8 +13,8 @@ import threading
 import nbd
 import pytest
 from kinds import START, VOLUME1, VOLUME2
-from serving import (SIZE, by_filter, connected, in_threads, needs_nbdkit, read,  # noqa: F401
-                     read_all, reads_ranges)
+from serving import (by_filter, connected, in_threads, needs_nbdkit, read, read_all,  # noqa: F401
+                     reads_ranges)
 from support import must, needs
 from volumes import copy_of, cryptsetup, edit_metadata, nested_header, overwrite, with_own_uuid
 
