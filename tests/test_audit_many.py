@@ -52,7 +52,7 @@ def bases(tmp_path_factory):
     """A volume of each version, which is changed again and again."""
     folder = passphrases(tmp_path_factory.mktemp("bases"))
     luks1(folder / "luks1", "aes-xts-plain64", "sha256", 512)
-    format2(folder / "luks2", "--sector-size 512")
+    format2(folder / "luks2", "--sector-size 512 --luks2-metadata-size 16k --luks2-keyslots-size 256k --offset 576")
     return folder
 
 
@@ -63,7 +63,8 @@ def mutant(bases, folder, number):
         image.write_bytes(generated())
         return image, False
     with open(bases / kind, "rb") as file:
-        image.write_bytes(file.read(65536))
+        image.write_bytes(file.read(32768))
+    os.truncate(image, 294912 if kind == "luks2" else os.path.getsize(bases / kind))
     if kind == "luks2":
         edit_metadata(image, changed)
     else:
