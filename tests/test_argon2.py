@@ -377,7 +377,12 @@ def test_refused_memory(way, image):
 
 
 def large(volume, tmp_path, kib):
-    return convert(copy_of(volume("argon2id, 64 MiB"), tmp_path / "large"), Cost("argon2id", 4, kib, 4))
+    """(cryptsetup itself takes less, if the machine has less.)"""
+    image = copy_of(volume("argon2id, 64 MiB"), tmp_path / "large")
+    cryptsetup("luksConvertKey --key-slot 0 --pbkdf pbkdf2 --pbkdf-force-iterations 1000 --key-file pass", image,
+               cwd=volumes.passphrases(tmp_path))
+    rewrite(image, "0", PASS, PASS, Cost("argon2id", 2, kib, 4))
+    return image
 
 
 @pytest.mark.parametrize("kib", [32, 65536, 1 << 20])

@@ -102,12 +102,14 @@ def test_key_file_that_is_the_terminal(rescue, disk2):
         assert terminal.ended() == 1 and b"standard input is a terminal" in terminal.shown
 
 
-def test_passphrase_is_overwritten(rescue, disk2, tmp_path):
+@pytest.mark.parametrize("kdf", [QUICK2, "--pbkdf argon2id --pbkdf-memory 4096 --pbkdf-parallel 2 "
+                                 "--pbkdf-force-iterations 4"], ids=["PBKDF2", "Argon2id"])
+def test_passphrase_is_overwritten(rescue, disk2, tmp_path, kdf):
     """Neither the passphrase that was typed nor that of a key file is in memory while the volume is decrypted."""
     os.mkfifo(tmp_path / "fifo")
     secret = b"long passphrase that is nowhere else"
     (tmp_path / "key").write_bytes(secret)
-    volumes.cryptsetup(f"luksAddKey {QUICK2} --key-file pass", disk2, "key", cwd=tmp_path)
+    volumes.cryptsetup(f"luksAddKey {kdf} --key-file pass", disk2, "key", cwd=tmp_path)
     reading = os.open(tmp_path / "fifo", os.O_RDONLY | os.O_NONBLOCK)
     writing = os.open(tmp_path / "fifo", os.O_WRONLY)
     with Terminal(rescue, "decrypt", "disk.img", "-o", "-", stdout=writing) as terminal:
