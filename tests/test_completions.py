@@ -176,12 +176,14 @@ printf "%s\n" "${COMPREPLY[@]}" | sort
 def audit_options(audit):
     """The long options that the help lists."""
     options = sorted(set(re.findall(rb"--[a-z][a-z-]*", audit("--help").output)))
-    assert len(options) == 5
+    assert len(options) == 6
     return [option.decode() for option in options]
 
 
 @pytest.mark.parametrize("words, offers", [
     (["--"], None),
+    (["--fail-on", ""], ["high", "low"]),
+    (["--fail-on", "h"], ["high"]),
     (["--s"], ["--search"]),
     (["--min-iterations", ""], [""]),
     (["--search", ""], ["first", "second", "third one"]),
