@@ -92,6 +92,14 @@ def test_version(path):
     assert stated(path, VERSIONS[path]) == stated("Makefile", r"^VERSION := (.*)$")
 
 
+def test_limits_of_the_library():
+    """luksrd-audit says what the library can try by its default limits, which luks_c states."""
+    stored, audit = ((TOP / f"crates/{name}.antt").read_text() for name in ("luks_c/specs/Stored", "luks_audit/specs/Audit"))
+    memory = re.search(r"or_default c\.argon2_memory_kib (\d+);", stored)[1]
+    fill = re.search(r"or_default c\.argon2_fill_mib (\d+) \* 1024;", stored)[1]
+    assert f"memory_kib = {memory}; fill_kib = {int(fill) * 1024} }}" in audit
+
+
 @pytest.mark.parametrize("path", INTERFACES)
 def test_number_of_the_interface(path):
     assert stated(path, INTERFACES[path]) == stated("Makefile", r"^INTERFACE := (.*)$")
