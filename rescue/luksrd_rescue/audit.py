@@ -81,11 +81,10 @@ def _member(name: str, default: Any) -> Any:
 
 
 class Slot(NamedTuple):
-    """A key slot: `raw` is its object in luksrd-audit's line, `tokens` the types of its tokens, and
-    `is_detached` whether the payload is elsewhere, before which its key area need not end."""
+    """A key slot: `raw` is its object in luksrd-audit's line, and `is_detached` whether the payload
+    is elsewhere, before which its key area need not end."""
 
     raw: dict[str, Any]
-    tokens: tuple[str, ...]
     is_detached: bool = False
 
     number = _member("number", 0)
@@ -102,9 +101,7 @@ class Slot(NamedTuple):
         if self.is_detached and (self.is_argon2 or self.raw.get("reason") == "area"):
             # (luksrd-audit takes each header for one before its payload; the library decides)
             return True
-        if self.is_argon2:
-            return self.is_over_limits or bool(self.raw.get("library_can_try", True))
-        return bool(self.raw.get("can_try"))
+        return self.is_over_limits or bool(self.raw.get("library_can_try"))
 
     @property
     def is_argon2(self) -> bool:
@@ -115,7 +112,7 @@ class Slot(NamedTuple):
     def is_over_limits(self) -> bool:
         """Whether Argon2 costs more than the library allows by itself: then a slot is tried only if
         it is named."""
-        return self.memory > ARGON2_MEMORY or self._fill > ARGON2_FILL
+        return self.is_argon2 and (self.memory > ARGON2_MEMORY or self._fill > ARGON2_FILL)
 
     @property
     def limits(self) -> dict[str, int]:
@@ -134,6 +131,11 @@ class Slot(NamedTuple):
     def is_by_itself(self) -> bool:
         """Whether it is tried although it is not named."""
         return self.can_try and self.priority > 0 and not self.is_over_limits
+
+    @property
+    def tokens(self) -> list[str]:
+        """The types of the tokens that name it."""
+        return [str(token.get("type")) for token in self.raw.get("tokens") or []]
 
     @property
     def is_used(self) -> bool:
@@ -198,7 +200,6 @@ class Found(NamedTuple):
     cipher = _member("cipher", "")
     sector_size = _member("sector_size", SECTOR)
     iv_tweak = _member("iv_tweak", 0)
-    tokens = _member("tokens", [])
 
     @property
     def segment_offset(self) -> Optional[int]:
@@ -220,15 +221,8 @@ class Found(NamedTuple):
     @property
     def slots(self) -> list[Slot]:
         """The key slots that are in use."""
-        slots = [Slot(each, self._types_for(each), self.is_detached)
-                 for each in self.raw.get("slots") or []]
+        slots = [Slot(each, self.is_detached) for each in self.raw.get("slots") or []]
         return [slot for slot in slots if slot.is_used]
-
-    def _types_for(self, slot: dict[str, Any]) -> tuple[str, ...]:
-        """The types of the tokens that name this slot."""
-        name = str(slot.get("number"))
-        return tuple(str(token.get("type")) for token in self.tokens
-                     if name in map(str, token.get("keyslots") or []))
 
     @property
     def header_length(self) -> int:

@@ -349,6 +349,6 @@ def volume_json(volume: choosing.Volume) -> dict[str, Any]:
         "payload_offset": facts.segment_offset, "is_header_only": volume.is_header_only,
         "fault": facts.fault, "damage": facts.damage,
         "slots": [{"number": slot.number, "opens": slot.opens, "kdf": slot.kdf,
-                   "memory": slot.memory, "tokens": list(slot.tokens), "words": slot.words}
+                   "memory": slot.memory, "tokens": slot.tokens, "words": slot.words}
                   for slot in facts.slots],
     }
