@@ -269,8 +269,8 @@ def documented_disk(folder, text):
         os.truncate(folder / name, length)
     must("sfdisk", "-q", path, stdin=b"label: gpt\nstart=2048, size=1048576, type=uefi, name=\"EFI System Partition\"\n"
          b"size=1048576, type=linux\nsize=+, type=linux\n")
-    cryptsetup("luksFormat --type luks2 --key-file pass --pbkdf argon2id --pbkdf-force-iterations 4",
-               f"--pbkdf-memory {1 << 20} --uuid", uuid, "volume", cwd=folder)
+    cryptsetup("luksFormat --type luks2 --key-file pass --pbkdf argon2id --pbkdf-force-iterations 4 --pbkdf-memory",
+               str(1 << 20), "--uuid", uuid, "volume", cwd=folder)
     for name in "efi", "boot":
         (folder / name).touch()
         os.truncate(folder / name, 512 * MIB)
