@@ -317,10 +317,10 @@ UnlessRefused _ P = P
 -- which opens. These were counted
 pub record CountsRefused (order : OrderModel) (area pass : List ℕ) (slot memory work work' blocks blocks' : ℕ) : Type 0
   where
-  pub tried : ℕ
-  pub stops : StopsAfter order.entries area pass tried slot memory
-  pub counted : work' ≡ capped (work + sum_by evaluations_of (take tried order.entries))
-  pub filled : capped blocks' ≡ capped (blocks + sum_by blocks_of (take tried order.entries))
+    pub tried : ℕ
+    pub stops : StopsAfter order.entries area pass tried slot memory
+    pub counted : work' ≡ capped (work + sum_by evaluations_of (take tried order.entries))
+    pub filled : capped blocks' ≡ capped (blocks + sum_by blocks_of (take tried order.entries))
 
 -- the same, if memory for Argon2 was refused
 abbrev pub IfRefused : {T : Type 0} → Result T VolumeFault → (ℕ → ℕ → Type 0) → Type 0

@@ -8,6 +8,5 @@ open_by-requires-clause-segment g c = (c.in-Ok.field-0, sym c.segment.ensures �
 -- the key of each key slot can be derived
 pub open_by-requires-clause-derives : goal.open_by-requires-clause-derives
 open_by-requires-clause-derives g c =
-    All-CanDerive c.header c.args.question.named c.args.question.limits c.in-Ok-order.order
-    c.in-Ok-order.ensures.answer c.in-Ok.field-0 (sym c.segment.ensures ∙ c.in-Ok.is) c.args.question.pass.now
-    (omega arith)
+    All-CanDerive _ _ _ _ c.in-Ok-order_within.ensures.answer c.in-Ok.field-0 (sym c.segment.ensures ∙ c.in-Ok.is)
+    c.args.question.pass.now (omega arith)
