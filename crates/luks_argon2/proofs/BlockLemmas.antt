@@ -16,9 +16,6 @@ pub record HasRows (x : List (List ℕ)) (f : ℕ → List ℕ) (i : ℕ) : Type
   pub long : length x ≡ 8
   pub each : (k : ℕ) → k < i → block_row x k ≡ f k
 
-pub no_rows : (x : List (List ℕ)) (f : ℕ → List ℕ) → length x ≡ 8 → HasRows x f 0
-no_rows x f long = record { long = long; each = λ k below. absurd (omega arith) }
-
 pub one_more_row : (x : List (List ℕ)) (f : ℕ → List ℕ) (i : ℕ) (v : List ℕ) → i < 8 → v ≡ f i → HasRows x f i
     → HasRows (slice_set x i v) f (i + 1)
 one_more_row x f i v inside is so_far = record {

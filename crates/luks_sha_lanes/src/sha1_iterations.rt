@@ -64,6 +64,7 @@ fn xor_words<const N: usize>(x: &[Simd<u32, N>; 5], y: &[Simd<u32, N>; 5]) -> [S
 
 /// `before` with the words of the next `count` digests XORed into it, in each lane. `last` is the
 /// digest that precedes them.
+#[tactic(auto, unfolding(crate::specs::Chains::iterations_xor, crate::specs::Chains::iterations))]
 pub(crate) fn xor_iterations<const N: usize>(
     inner: &[Simd<u32, N>; 5],
     outer: &[Simd<u32, N>; 5],

@@ -71,6 +71,7 @@ fn xor(a: u64x2, b: u64x2) -> u64x2
 
 /// `before` with the words of the next `count` digests XORed into it, in each lane. `last` is the
 /// digest that precedes them.
+#[tactic(auto, unfolding(crate::specs::Chains::iterations_xor, crate::specs::Chains::iterations))]
 pub(crate) fn xor_iterations(
     inner: &[u64x2; 8],
     outer: &[u64x2; 8],

@@ -84,6 +84,7 @@ fn xor_words(x: &[u64; 8], y: &[u64; 8]) -> [u64; 8]
 
 /// `before` with the words of the next `count` digests XORed into it. `last` is the digest that
 /// precedes them; a digest has the first `WORDS` words.
+#[tactic(auto, unfolding(crate::specs::Chains::iterations_xor, crate::specs::Chains::iterations))]
 pub(crate) fn xor_iterations<const WORDS: usize>(
     inner: &[u64; 8],
     outer: &[u64; 8],

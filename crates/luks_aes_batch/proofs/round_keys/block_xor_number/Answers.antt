@@ -1,9 +1,6 @@
 use Rattle.std.proofs.Common.{arith, refl}
-use Rattle.luks_aes.proofs.StateLemmas.{filled_none, filled_more, filled_all, cell_at}
+use Rattle.luks_aes.proofs.StateLemmas.{filled_more, filled_all, cell_at}
 use Rattle.luks_aes_batch.proofs.round_keys.block_xor_number.Goals as goal
-
-pub loop-i-init : goal.loop-i-init
-loop-i-init c = filled_none _ _ refl
 
 pub loop-i-preserved : goal.loop-i-preserved
 loop-i-preserved c =

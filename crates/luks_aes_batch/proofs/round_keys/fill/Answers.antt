@@ -1,12 +1,9 @@
-use Rattle.std.proofs.Common.{◌≡◌, ℕ, ◌+◌, arith, rules, subst, ◌∙◌}
+use Rattle.std.proofs.Common.{◌≡◌, ℕ, ◌+◌, arith, subst, ◌∙◌}
 use Rattle.std.proofs.Math.ListN.{length-set}
 use Rattle.luks_aes.specs.Aes.{key_expansion, rounds_of}
 use Rattle.luks_aes_batch.specs.RoundKeys.{HasInvMixedKeys}
 use Rattle.luks_aes_batch.proofs.RoundLemmas.{keys_more}
 use Rattle.luks_aes_batch.proofs.round_keys.fill.Goals as goal
-
-pub loop-n-init : goal.loop-n-init
-loop-n-init c = record { long = search rules; there = record { at = λ m low. absurd (omega arith) } }
 
 pub loop-n-preserved : goal.loop-n-preserved
 loop-n-preserved c =

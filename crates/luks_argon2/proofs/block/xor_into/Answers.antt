@@ -1,11 +1,8 @@
-use Rattle.std.proofs.Common.{◌∙◌, List, [], ℕ, arith, ap, refl}
+use Rattle.std.proofs.Common.{◌∙◌, List, [], ℕ, arith, ap}
 use Rattle.std.proofs.lemmas.List.{get_or-set_other}
 use Rattle.luks_argon2.specs.Block.{block_row, xor_rows}
-use Rattle.luks_argon2.proofs.BlockLemmas.{all_rows, no_rows, one_more_row}
+use Rattle.luks_argon2.proofs.BlockLemmas.{all_rows, one_more_row}
 use Rattle.luks_argon2.proofs.block.xor_into.Goals as goal
-
-pub rows-init : goal.rows-init
-rows-init c = (no_rows _ _ (omega arith), λ k le. refl)
 
 pub rows-preserved : goal.rows-preserved
 rows-preserved c =

@@ -1,11 +1,8 @@
 use Rattle.std.proofs.Common.{◌≡◌, ◌∙◌, List, ℕ, ap, arith, sym}
 use Rattle.std.specs.Prelude.{if◌then◌else◌}
 use Rattle.luks_argon2.specs.Block.{block_row, xor_blocks, xor_rows}
-use Rattle.luks_argon2.proofs.BlockLemmas.{all_rows, no_rows, one_more_row, row_of}
+use Rattle.luks_argon2.proofs.BlockLemmas.{all_rows, one_more_row, row_of}
 use Rattle.luks_argon2.proofs.compression.combine.Goals as goal
-
-pub rows-init : goal.rows-init
-rows-init c = (no_rows _ _ (omega arith), no_rows _ _ (omega arith))
 
 pub rows-preserved : goal.rows-preserved
 rows-preserved c =

@@ -1,11 +1,8 @@
 use Rattle.std.proofs.Common.{◌∙◌, arith, ap, sym}
 use Rattle.luks_argon2.specs.Compression.{column}
 use Rattle.luks_argon2.specs.Block.{block_row, xor_rows}
-use Rattle.luks_argon2.proofs.BlockLemmas.{all_rows, no_rows, one_more_row, row_of}
+use Rattle.luks_argon2.proofs.BlockLemmas.{all_rows, one_more_row, row_of}
 use Rattle.luks_argon2.proofs.compression.finish.Goals as goal
-
-pub rows-init : goal.rows-init
-rows-init c = no_rows _ _ (omega arith)
 
 pub rows-preserved : goal.rows-preserved
 rows-preserved c =

@@ -1,10 +1,7 @@
 use Rattle.std.proofs.Common.{◌∙◌, arith, ap}
 use Rattle.luks_argon2.specs.Permutation.{permutation}
-use Rattle.luks_argon2.proofs.BlockLemmas.{all_rows, no_rows, one_more_row}
+use Rattle.luks_argon2.proofs.BlockLemmas.{all_rows, one_more_row}
 use Rattle.luks_argon2.proofs.compression.permute_columns.Goals as goal
-
-pub columns-init : goal.columns-init
-columns-init c = no_rows _ _ (omega arith)
 
 pub columns-preserved : goal.columns-preserved
 columns-preserved c =

@@ -1,12 +1,8 @@
-use Rattle.std.proofs.Common.{◌≡◌, ◌∙◌, ap, ap₂, refl, arith, add-one}
+use Rattle.std.proofs.Common.{◌≡◌, ◌∙◌, ap, ap₂, arith, add-one}
 use Rattle.luks_sha_lanes.specs.Chains.{iterations_xor, iterations, xor_words}
 use Rattle.sha2.specs.Sha256.{compress}
 use Rattle.luks_sha_lanes.specs.Lanes.{after_digest}
 use Rattle.luks_sha_lanes.proofs.sha256_iterations.xor_iterations.Goals as goal
-
-pub iterations-init : goal.iterations-init
-unfolding iterations_xor iterations
-iterations-init c = λ j in_lane inner outer last. (last, refl, refl)
 
 pub iterations-preserved : goal.iterations-preserved
 unfolding iterations_xor iterations

@@ -1,11 +1,7 @@
-use Rattle.std.proofs.Common.{◌≡◌, ◌∙◌, ap, ap₂, refl, arith, add-one}
+use Rattle.std.proofs.Common.{◌≡◌, ◌∙◌, ap, ap₂, arith, add-one}
 use Rattle.luks_sha_lanes.specs.Chains.{iterations_xor, iterations, xor_words}
 use Rattle.luks_sha_lanes.specs.Pairs.{after_digest512}
 use Rattle.luks_sha_lanes.proofs.sha512_iterations.xor_iterations.Goals as goal
-
-pub iterations-init : goal.iterations-init
-unfolding iterations_xor iterations
-iterations-init g c = (refl, refl)
 
 pub iterations-preserved : goal.iterations-preserved
 unfolding iterations_xor iterations

@@ -1,11 +1,8 @@
-use Rattle.std.proofs.Common.{◌∙◌, ℕ, arith, refl}
+use Rattle.std.proofs.Common.{◌∙◌, ℕ, arith}
 use Rattle.luks_aes_batch.specs.BitPlanes.{rotated_index}
 use Rattle.luks_aes_batch.specs.Words.{GroupHolds}
 use Rattle.luks_aes_batch.proofs.WordLemmas.{group_same, one_more_group}
 use Rattle.luks_aes_batch.proofs.state.BitslicedState.inv_shift_rows.Goals as goal
-
-pub loop-g-init : goal.loop-g-init
-loop-g-init g c = record { done = λ i low. absurd (omega arith); rest = λ i more inside r low. refl }
 
 pub loop-g-preserved : goal.loop-g-preserved
 loop-g-preserved g c =

@@ -1,11 +1,8 @@
-use Rattle.std.proofs.Common.{◌≡◌, ◌∙◌, arith, ap, inl, inr, refl, sym}
+use Rattle.std.proofs.Common.{◌≡◌, ◌∙◌, arith, ap, inl, inr, sym}
 use Rattle.std.proofs.lemmas.Bool.{cases_lt}
 use Rattle.luks_aes_batch.specs.Words.{words_at}
 use Rattle.luks_aes_batch.proofs.WordLemmas.{held_by}
 use Rattle.luks_aes_batch.proofs.state.BitslicedState.inv_sub_bytes.Goals as goal
-
-pub loop-i-init : goal.loop-i-init
-loop-i-init g c = record { done = λ n low. absurd (omega arith); rest = λ n more. refl }
 
 pub loop-i-preserved : goal.loop-i-preserved
 loop-i-preserved g c =

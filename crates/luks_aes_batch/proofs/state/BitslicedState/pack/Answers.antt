@@ -8,9 +8,6 @@ use Rattle.luks_aes_batch.specs.Words.{words_at}
 use Rattle.luks_aes_batch.proofs.PackLemmas.{masked_at, masked_state_byte, word_inside}
 use Rattle.luks_aes_batch.proofs.state.BitslicedState.pack.Goals as goal
 
-pub loop-g-init : goal.loop-g-init
-loop-g-init g c = record { done = λ h r j p k before. absurd (omega arith) }
-
 pub loop-g-preserved : goal.loop-g-preserved
 loop-g-preserved g c = record {
   done = λ h r j p k before low which inside small.

@@ -1,11 +1,8 @@
-use Rattle.std.proofs.Common.{◌≡◌, ◌∙◌, ◌+◌, ◌*◌, arith, ap, inl, inr, refl, sym, slice_index}
+use Rattle.std.proofs.Common.{◌≡◌, ◌∙◌, ◌+◌, ◌*◌, arith, ap, inl, inr, sym, slice_index}
 use Rattle.std.specs.Int.{bit_at}
 use Rattle.std.proofs.lemmas.Bool.{cases_lt}
 use Rattle.luks_aes_batch.specs.Words.{words_at}
 use Rattle.luks_aes_batch.proofs.state.BitslicedState.transpose.Goals as goal
-
-pub loop-i-init : goal.loop-i-init
-loop-i-init g c = record { done = λ n j p k low. absurd (omega arith); rest = λ n more. refl }
 
 pub loop-i-preserved : goal.loop-i-preserved
 loop-i-preserved g c =

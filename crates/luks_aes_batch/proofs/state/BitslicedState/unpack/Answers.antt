@@ -8,12 +8,6 @@ use Rattle.luks_aes_batch.specs.Words.{words_at}
 use Rattle.luks_aes_batch.proofs.PackLemmas.{byte_of_bits, state_byte_at, word_inside}
 use Rattle.luks_aes_batch.proofs.state.BitslicedState.unpack.Goals as goal
 
-pub loop-g-init : goal.loop-g-init
-loop-g-init g c = record {
-  bytes = record { each = λ k. (c.type_inv.batch k).fits };
-  done = λ h j e i k before. absurd (omega arith);
-}
-
 pub loop-g-preserved : goal.loop-g-preserved
 loop-g-preserved g c = record {
   bytes = record { each = λ k. (c.type_inv.batch k).fits };
