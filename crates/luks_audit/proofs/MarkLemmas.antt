@@ -9,7 +9,6 @@ use Rattle.luks_audit.specs.Marks.{text_byte, has_lead, is_behind, is_lead, mark
 use Rattle.luks_audit.specs.Numbers.{by_number}
 
 lead_none : (text : List ℕ) (i : ℕ) → has_lead text ≡ false → is_lead (text_byte text i) ≡ false
-unfolding has_lead
 lead_none [] i none = refl
 lead_none (byte ∷ rest) zero none = (or_parts (is_lead byte) (has_lead rest) none).0
 lead_none (byte ∷ rest) (suc i) none = lead_none rest i (or_parts (is_lead byte) (has_lead rest) none).1

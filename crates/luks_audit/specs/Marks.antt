@@ -2,6 +2,7 @@
 -- hexadecimal digits, which JSON reads as the same character (RFC 8259, section 7). A line is UTF-8.
 use Rattle.std.specs.Prelude.{ℕ, ◌+◌, ◌-◌, ◌&&◌, ◌||◌, ◌==◌, ◌++◌, Bool, false, List, [], ◌∷◌, Option, Some, None, codes}
 use Rattle.std.specs.Prelude.{if◌then◌else◌, length, nat_le, nat_lt, slice_get, unwrap_or}
+use Rattle.std.specs.List.{list_any}
 use Rattle.hex.specs.Hex.{encode_lower}
 use Rattle.luks_audit.specs.Numbers.{by_number}
 use Rattle.luks_audit.specs.declared.mark.Mark.{Mark}
@@ -41,9 +42,8 @@ mark_at text i = mark_of (text_byte text i) (text_byte text (i + 1)) (text_byte 
 abbrev pub is_lead : ℕ → Bool
 is_lead byte = (byte == 127) || ((byte == 194) || ((byte == 216) || (byte == 226)))
 
-unfoldable pub has_lead : List ℕ → Bool
-has_lead [] = false
-has_lead (byte ∷ rest) = is_lead byte || has_lead rest
+abbrev pub has_lead : List ℕ → Bool
+has_lead text = list_any is_lead text
 
 -- a mark has more than this many bytes
 abbrev pub is_longer : ℕ → Option Mark → Bool

@@ -168,17 +168,16 @@ fn is_lead(byte: u8) -> bool
     byte == 127 || byte == 194 || byte == 216 || byte == 226
 }
 
-// Whether a mark can begin with one of the bytes.
-#[tactic(auto, unfolding(crate::specs::Marks::has_lead))]
+// Whether a mark can begin with one of the bytes. All are looked at, since that takes fewer
+// instructions than to end at the first one.
 fn has_lead(text: &[u8]) -> bool
     ensures { result ≡ has_lead text.now }
 {
-    for index in 0..text.len() {
-        if is_lead(text[index]) {
-            return true;
-        }
+    let mut found = false;
+    for byte in text {
+        found |= is_lead(*byte);
     }
-    false
+    found
 }
 
 /// The text with its marks escaped. Nearly every text has none, and stays as it is.

@@ -1,7 +1,7 @@
-use Rattle.std.proofs.Common.{◌≡◌, drop}
+use Rattle.std.proofs.Common.{◌≡◌, take}
 use Rattle.luks_audit.specs.Marks.{has_lead}
 use Rattle.luks_audit.proofs.mark.has_lead.Given as goal
 
--- no mark can begin with a byte before this one
-abbrev pub invariant-loop-index : goal.invariant-loop-index
-invariant-loop-index l = has_lead l.text ≡ has_lead (drop l.index l.text)
+-- whether a mark can begin with one of the bytes so far
+abbrev pub invariant-loop-byte : goal.invariant-loop-byte
+invariant-loop-byte l = l.found ≡ has_lead (take l.byte-index l.text)
