@@ -1,9 +1,11 @@
-"""Hostile key slots by Argon2: 3,000 headers whose parameters are at their extremes, of wrong kinds or missing, also beside
-a fault of another part of the slot. What the library says is compared with the rules of RFC 9106 and of the LUKS2
-specification, written again here; luksrd skips each, whatever its parameters are. And requests for memory that are
-refused, one after the other. SEED gives the same headers again."""
+"""Hostile key slots by Argon2: 3,000 headers whose parameters are at their extremes, of wrong kinds or missing, also
+beside a fault of another part of the slot. What the library says is compared with the rules of RFC 9106 and of the
+LUKS2 specification, written again here; luksrd skips each, whatever its parameters are. And requests for memory that
+are refused, one after the other. SEED gives the same headers again."""
 import base64
 import copy
+import functools
+import json
 import os
 import random
 import re
@@ -103,7 +105,7 @@ def opened(library, monkeypatch):
 def check(ended, wanted, is_same):
     """Whether a hostile header ended in one of the ways that it may."""
     if wanted:
-        found = re.fullmatch(r"luksrd: no key slot can be tried; skipped: 0 \(([a-z0-9 ]+)(:[^()]*|,[^()]*)?\)", str(ended))
+        found = re.fullmatch(r"luksrd: no key slot can be tried; skipped: 0 \(([a-z0-9 ]+)\)", str(ended))
         return found is not None and found[1] in wanted
     return ended == (PLAIN if is_same else "luksrd: no key opens the volume")
 
@@ -111,29 +113,35 @@ def check(ended, wanted, is_same):
 @pytest.mark.parametrize("part", range(PARTS))
 def test_hostile_headers(opened, luksrd, volume, tmp_path, part):  # noqa: F811
     draw, tried, wrong = random.Random(SEED + part), 0, []
-    image = copy_of(volume("written: argon2i, 2 passes" if part % 2 else "written: argon2id, 1 lane"), tmp_path / "image")
+    name = "written: argon2i, 2 passes" if part % 2 else "written: argon2id, 1 lane"
+    image = copy_of(volume(name), tmp_path / "image")
     usual = volumes.metadata(image)[0]
     (tmp_path / "pass").write_bytes(volumes.PASS)
+
+    def seen(tree):
+        """How luksrd ends over these metadata."""
+        volumes.edit_metadata(image, lambda old: (old.clear(), old.update(json.loads(tree))))
+        return [luksrd(line) for line in ("luksCat --key-file pass image", "luksCheck image", "luksDump image")]
+
+    # (few differ in more than the parameters)
+    without = functools.cache(seen)
     for number in range(HEADERS // PARTS):
         tree = copy.deepcopy(usual)
         more = hostile(draw, tree)
         kdf = tree["keyslots"]["0"]["kdf"]
         kind, wanted = kdf["type"], reasons(kdf) | more
         is_same = all(kdf.get(name) == value for name, value in usual["keyslots"]["0"]["kdf"].items())
-        volumes.edit_metadata(image, lambda old: (old.clear(), old.update(tree)))
+        ended = seen(json.dumps(tree))
         said = opened(image, tmp_path / "pass")
         tried += not wanted
         is_right = check(said, wanted, is_same)
         # (to luksrd the parameters are nothing)
-        seen = [luksrd(line) for line in ("luksCat --key-file pass image", "luksCheck image", "luksDump image")]
         if not more:
             skipped = f"luksrd: no key slot can be tried; skipped: 0 ({kind})\n"
-            is_right = is_right and seen[:2] == [(1, b"", skipped), (0, b"clean\n", "")]
+            is_right = is_right and ended[:2] == [(1, b"", skipped), (0, b"clean\n", "")]
         tree["keyslots"]["0"]["kdf"] = {"type": kind}
-        volumes.edit_metadata(image, lambda old: (old.clear(), old.update(tree)))
-        again = [luksrd(line) for line in ("luksCat --key-file pass image", "luksCheck image", "luksDump image")]
-        if not is_right or seen != again:
-            wrong.append((number, kdf, more, wanted, said[:100], seen, again))
+        if not is_right or ended != without(json.dumps(tree)):
+            wrong.append((number, kdf, more, wanted, said[:100], ended))
     assert wrong[:3] == [], f"SEED={SEED}"
     assert tried * 20 > HEADERS // PARTS, f"SEED={SEED}: {tried} were tried"
 
