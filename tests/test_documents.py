@@ -285,9 +285,6 @@ CASES = {
         [f"clean\n{SLOT}", 'TYPE="ext4"']),
     "Argon2": Case(
         ARGON2_ALONE, ["RECIPES.md:# Argon2 key slots only: add"], {"plain5.img": "inside", "copy": None}),
-    "Argon2 by the man page": Case(
-        ARGON2_ALONE, ["luksrd.1:Decrypt a LUKS2 volume that has key slots by Argon2"],
-        {"plain.img": "inside"}),
     "stripes": Case(
         {"disk.img": "empty", "key": "key", "more": "more"},
         ["RECIPES.md:Split a key of 64 bytes"],
