@@ -5,8 +5,8 @@ use Rattle.std.specs.Prelude.{Ok, nat_lt, ok_or, option_and_then}
 use Rattle.std.specs.List.{find}
 use Rattle.std.proofs.lemmas.Option.{option_and_then_some}
 use Rattle.luks_kdf.specs.declared.hash.Hash.{Hash}
-use Rattle.luks_header_area.specs.declared.fault.HeaderFault.TheVariants.{NotLuks}
-use Rattle.luks_header_area.specs.Fields.{text_of}
+use Rattle.luks_format.specs.declared.fault.HeaderFault.TheVariants.{NotLuks}
+use Rattle.luks_format.specs.Fields.{text_of}
 use Rattle.luks2_binary.specs.Choice2.{with_valid_primary, binary_at, chosen2_of, found_at, header2_of, is_valid}
 use Rattle.luks2_binary.specs.Choice2.{fits, size_at}
 use Rattle.luks2_binary.specs.Header2.{binary_len, checksum_hash_in, header2_from, sequence_in, size_in, sizes}

@@ -7,7 +7,7 @@ use Rattle.std.specs.List.{list_any, find}
 use Rattle.std.proofs.lemmas.Bool.{and_parts, cases_lt, leb-true, eqb-true, le-leb, lt-leb, ne_eqb}
 use Rattle.std.proofs.lemmas.Bool.Decides.{nat_tests}
 use Rattle.std.proofs.lemmas.List.{drop-append-le, take-append-le}
-use Rattle.luks_header_area.specs.Fields.{at}
+use Rattle.luks_format.specs.Fields.{at}
 use Rattle.luks2_binary.specs.Choice2.{binary_at, fits, is_binary_of, is_valid, size_at, is_tried}
 use Rattle.luks2_binary.specs.ReadLen2.{probe_end, max_of, search_len}
 use Rattle.luks2_binary.specs.Search2.{furthest}

@@ -1,7 +1,7 @@
 -- The checksum of a header of LUKS2 (LUKS2 On-Disk Format Specification 1.1, section 2.1, `csum`).
 use Rattle.std.specs.Prelude.{ℕ, ◌++◌, Bool, false, List, bytes_eq, drop, replicate, take}
 use Rattle.std.specs.Option.{option_map_or}
-use Rattle.luks_header_area.specs.Fields.{at}
+use Rattle.luks_format.specs.Fields.{at}
 use Rattle.luks_kdf.specs.Hash.{hash_of, digest_len}
 use Rattle.luks2_binary.specs.Header2.{checksum_hash_in}
 

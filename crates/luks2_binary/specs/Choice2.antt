@@ -3,9 +3,9 @@
 use Rattle.std.specs.Prelude.{ℕ, ◌+◌, ◌==◌, ◌&&◌, ◌||◌, not, nat_le, nat_lt, if◌then◌else◌, Bool, List, [], ◌∷◌, Option}
 use Rattle.std.specs.Prelude.{Some, None, Result, bytes_eq, is_some, length, ok_or, option_and_then}
 use Rattle.std.specs.List.{find, list_any}
-use Rattle.luks_header_area.specs.Fields.{at}
-use Rattle.luks_header_area.specs.declared.fault.HeaderFault.{HeaderFault}
-use Rattle.luks_header_area.specs.declared.fault.HeaderFault.TheVariants.{NotLuks}
+use Rattle.luks_format.specs.Fields.{at}
+use Rattle.luks_format.specs.declared.fault.HeaderFault.{HeaderFault}
+use Rattle.luks_format.specs.declared.fault.HeaderFault.TheVariants.{NotLuks}
 use Rattle.luks2_binary.specs.Checksum2.{checksum_matches}
 use Rattle.luks2_binary.specs.Header2.{binary_len, checksum_hash_in, header2_from, hdr_offset_in, sequence_in, size_in}
 use Rattle.luks2_binary.specs.Header2.{sizes}

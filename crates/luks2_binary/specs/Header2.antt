@@ -1,6 +1,6 @@
 -- The binary header of LUKS2: its fields (LUKS2 On-Disk Format Specification 1.1, section 2.1).
 use Rattle.std.specs.Prelude.{ℕ, false, List, [], ◌∷◌, Option, option_map}
-use Rattle.luks_header_area.specs.Fields.{at, be64, text_of}
+use Rattle.luks_format.specs.Fields.{at, be64, text_of}
 use Rattle.luks_kdf.specs.Hash.{hash_named}
 use Rattle.luks_kdf.specs.declared.hash.Hash.{Hash}
 use Rattle.luks2_binary.specs.declared.header.PairFinding.{PairFinding}

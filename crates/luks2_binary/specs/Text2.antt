@@ -1,6 +1,6 @@
 -- The JSON text of a header (LUKS2 On-Disk Format Specification 1.1, section 3).
 use Rattle.std.specs.Prelude.{ℕ, ◌+◌, ◌-◌, List}
-use Rattle.luks_header_area.specs.Fields.{at, text_of}
+use Rattle.luks_format.specs.Fields.{at, text_of}
 use Rattle.luks2_binary.specs.Header2.{binary_len}
 use Rattle.luks2_binary.specs.declared.header.Header2.{Header2}
 use Rattle.luks2_binary.specs.declared.header.HeaderRole.{HeaderRole}

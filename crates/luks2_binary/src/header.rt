@@ -5,8 +5,8 @@ ghost use Rattle.luks2_binary.specs.Header2.{checksum_hash_in, header2_from};
 ghost use Rattle.luks2_binary.specs.Header2.{hdr_offset_in, sequence_in, size_in};
 ghost use Rattle.luks2_binary.specs.Text2.{json_text_of};
 
-use luks_header_area::field::{bytes_at, number64_at, slice_at, text_at};
-use luks_header_area::text::{FixedText, text_before_zero};
+use luks_format::field::{bytes_at, number64_at, slice_at, text_at};
+use luks_format::text::{FixedText, text_before_zero};
 use luks_kdf::Hash;
 
 /// The length of a binary header in bytes. Its JSON area follows it.

@@ -4,7 +4,7 @@ ghost use Rattle.std.specs.Prelude.{◌≡◌, ◌+◌, ◌≤◌, ◌==◌, ◌
 ghost use Rattle.std.specs.Prelude.{if◌then◌else◌, length, replicate, Some, None};
 ghost use Rattle.std.specs.List.{list_any};
 ghost use Rattle.luks_kdf.specs.Hash.{hash_of, digest_len};
-ghost use Rattle.luks_header_area.specs.Fields.{at};
+ghost use Rattle.luks_format.specs.Fields.{at};
 ghost use Rattle.luks2_binary.specs.Checksum2.{checksum_matches, without_checksum};
 ghost use Rattle.luks2_binary.specs.Choice2.{beginning_at, binary_at, fits, is_binary_of, is_valid};
 ghost use Rattle.luks2_binary.specs.Choice2.{size_at};

@@ -18,7 +18,7 @@ use Rattle.base64.specs.Decode.{suffix_error}
 use Rattle.base64.specs.Engines.{standard}
 use Rattle.base64.specs.GeneralPurpose.{decode_of, decoded_of, groups_bytes_of, groups_error_of}
 use Rattle.base64.specs.declared.decode.DecodeError.{DecodeError}
-use Rattle.luks_verdict.proofs.MadeLemmas.{some_from_not_none}
+use Rattle.luks_format.proofs.MadeLemmas.{some_from_not_none}
 use Rattle.luks2_json.specs.Member.{begins_with_group, decimal_of, encoded_len, is_in_alphabet, is_symbol}
 use Rattle.luks2_json.proofs.NumberedLemmas.{none_from_not_some}
 

@@ -3,7 +3,7 @@
 use Rattle.std.specs.Prelude.{ℕ, zero, suc, ◌||◌, not, Bool, false, List, Option, None, bytes_eq, codes, decimal}
 use Rattle.std.specs.Prelude.{nat_lt, if◌then◌else◌, option_map, unwrap_or}
 use Rattle.std.specs.Option.{option_or}
-use Rattle.luks_verdict.specs.Rule.{max_slots}
+use Rattle.luks_format.specs.Rule.{max_slots}
 use Rattle.luks2_json.specs.Member.{in_member}
 use Rattle.serde_json.specs.Data.{Data, Members, no_members, member}
 use Rattle.serde_json.specs.Find.{as_object, get}

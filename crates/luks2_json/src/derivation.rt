@@ -5,8 +5,8 @@ ghost use Rattle.luks2_json.specs.Member.{base64_member, hash_member, in_member,
 ghost use Rattle.serde_json.specs.View.{view as data_of};
 
 use crate::member::{base64_member, integer_member, string_member};
+use luks_format::bytes::HeaderBytes;
 use luks_kdf::Hash;
-use luks_verdict::bytes::HeaderBytes;
 use serde_json::Value;
 use std::alloc::{AllocError, Global};
 

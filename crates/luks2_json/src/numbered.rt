@@ -1,14 +1,14 @@
 //! Members whose names are numbers.
 
 ghost use Rattle.std.specs.Prelude.{◌≡◌, bytes_eq, decimal, not, option_map, string_bytes};
-ghost use Rattle.luks_verdict.specs.Rule.{max_slots};
+ghost use Rattle.luks_format.specs.Rule.{max_slots};
 ghost use Rattle.luks2_json.specs.Numbered.{any_name, is_number_below, object_numbered};
 ghost use Rattle.luks2_json.specs.Numbered.{has_key_out_of_range};
 ghost use Rattle.serde_json.specs.View.{members_view, view as data_of};
 
 use crate::tree::Metadata;
 use itoa::Buffer;
-use luks_verdict::rule::MAX_SLOTS;
+use luks_format::rule::MAX_SLOTS;
 use serde_json::{Map, Value};
 
 /// The value with this number in the object of this name. A number of 32 or more has none.

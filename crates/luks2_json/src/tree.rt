@@ -6,7 +6,7 @@ ghost use Rattle.luks2_json.specs.Tree.{has_objects, is_object_at, tree_of};
 ghost use Rattle.serde_json.specs.Errors.{IsMemory};
 ghost use Rattle.serde_json.specs.View.{view as data_of};
 
-use luks_header_area::fault::HeaderFault;
+use luks_format::fault::HeaderFault;
 use serde_json::Value;
 use std::alloc::Global;
 use std::marker::Model;

@@ -6,11 +6,11 @@ use Rattle.std.specs.Prelude.{◌||◌, ◌&&◌, Bool, if◌then◌else◌}
 use Rattle.std.proofs.lemmas.Bool.{not-false, ne_eqb}
 use Rattle.std.proofs.lemmas.Option.{none-some}
 use Rattle.luks_cipher.specs.declared.mode.Mode.{Mode}
-use Rattle.luks_verdict.proofs.MadeLemmas.{refused_or-fault, refused_or-none}
-use Rattle.luks_verdict.proofs.MadeLemmas.{segment_of_all-yes}
-use Rattle.luks_verdict.specs.SectorSize.{has_whole_sectors}
-use Rattle.luks_verdict.specs.declared.sector_size.SectorSize.{SectorSize as Sector}
-use Rattle.luks_verdict.proofs.TableLemmas.{none_holds}
+use Rattle.luks_format.proofs.MadeLemmas.{refused_or-fault, refused_or-none}
+use Rattle.luks_format.proofs.MadeLemmas.{segment_of_all-yes}
+use Rattle.luks_format.specs.SectorSize.{has_whole_sectors}
+use Rattle.luks_format.specs.declared.sector_size.SectorSize.{SectorSize as Sector}
+use Rattle.luks_format.proofs.TableLemmas.{none_holds}
 use Rattle.luks2_metadata.specs.declared.bounds.Bounds.{Bounds}
 use Rattle.luks2_metadata.specs.Segment2.{payload2_start, payload_mode2_of, fault2_of, has_requirement, is_segment}
 use Rattle.luks2_json.specs.Member.{decimal_member}
@@ -19,11 +19,11 @@ use Rattle.luks2_metadata.specs.Segment2.{sector_size_of, segment2_of, segment_f
 use Rattle.luks2_metadata.specs.Segment2.{only_member, size_is_wrong, size_member, the_segment}
 use Rattle.serde_json.specs.Data.{Data, Items, Members, array, object}
 use Rattle.std.specs.Result.{result_ok}
-use Rattle.luks_verdict.specs.Segment.{segment_from, segment_of_all}
-use Rattle.luks_verdict.specs.Table.{first_match}
-use Rattle.luks_verdict.specs.declared.refusal.SegmentFault.{SegmentFault}
-use Rattle.luks_verdict.specs.declared.refusal.SegmentFault.TheVariants.{Requirement, Segments}
-use Rattle.luks_verdict.specs.declared.segment.Segment.{Segment}
+use Rattle.luks_format.specs.Segment.{segment_from, segment_of_all}
+use Rattle.luks_format.specs.Table.{first_match}
+use Rattle.luks_format.specs.declared.refusal.SegmentFault.{SegmentFault}
+use Rattle.luks_format.specs.declared.refusal.SegmentFault.TheVariants.{Requirement, Segments}
+use Rattle.luks_format.specs.declared.segment.Segment.{Segment}
 use Rattle.serde_json.specs.Find.{as_array, as_object, get, get_member}
 use Rattle.serde_json.specs.View.{items_view, members_view}
 use Rattle.serde_json.specs.declared.value.Value.{Value}

@@ -10,32 +10,32 @@ use Rattle.std.proofs.lemmas.Option.{none-some, same_Some}
 use Rattle.luks_argon2.specs.declared.variant.Variant.{Variant}
 use Rattle.luks_cipher.specs.declared.mode.Mode.{Mode}
 use Rattle.luks_cipher.proofs.ModeLemmas.{max_mode_key}
-use Rattle.luks_verdict.specs.Derivation.{argon2_refusal, derivation_refusal, has_known_hash, is_allowed, is_derivable}
-use Rattle.luks_verdict.specs.Derivation.{lanes_out_of_range, memory_out_of_range, passes_out_of_range}
-use Rattle.luks_verdict.specs.Rule.{exceeds, iterations_out_of_range, area_out_of_range}
-use Rattle.luks_verdict.specs.Rule.{is_digest, key_material_len, stripes_out_of_range, max_iteration_count}
-use Rattle.luks_verdict.specs.Derivation.{is_in_range}
-use Rattle.luks_verdict.specs.Slot.{has_no_usable_digest, material_end}
-use Rattle.luks_verdict.specs.Slot.{slot_from, verdict_kind_of}
-use Rattle.luks_verdict.proofs.MadeLemmas.{are_in_range, digest_from-no, digest_from-yes, digest_of, digest_there}
-use Rattle.luks_verdict.proofs.MadeLemmas.{is_usable, mapped, of_usable, slot_from-yes, slot_of, some_from_not_none}
-use Rattle.luks_verdict.specs.declared.derivation.Argon2Limits.{Argon2Limits}
-use Rattle.luks_verdict.specs.declared.derivation.Derivation.{Derivation}
-use Rattle.luks_verdict.specs.declared.derivation.Derivation.TheVariants.{Pbkdf2, Argon2}
-use Rattle.luks_verdict.specs.declared.derivation.Limits.{Limits}
-use Rattle.luks_verdict.specs.declared.digest.KeyDigest.{KeyDigest}
-use Rattle.luks_verdict.specs.declared.refusal.SkipReason.{SkipReason}
-use Rattle.luks_verdict.specs.declared.refusal.SkipReason.TheVariants.{Iterations, Argon2Time, Argon2Cpus}
-use Rattle.luks_verdict.specs.declared.refusal.SkipReason.TheVariants.{Argon2Memory}
-use Rattle.luks_verdict.specs.declared.slot.Slot.{Slot}
-use Rattle.luks_verdict.specs.declared.slot.SlotParts.{SlotParts}
-use Rattle.luks_verdict.specs.declared.slot.Verdict.TheVariants.{Usable}
-use Rattle.luks_verdict.specs.declared.slot.VerdictKind.TheVariants.{Usable as KindUsable}
+use Rattle.luks_format.specs.Derivation.{argon2_refusal, derivation_refusal, has_known_hash, is_allowed, is_derivable}
+use Rattle.luks_format.specs.Derivation.{lanes_out_of_range, memory_out_of_range, passes_out_of_range}
+use Rattle.luks_format.specs.Rule.{exceeds, iterations_out_of_range, area_out_of_range}
+use Rattle.luks_format.specs.Rule.{is_digest, key_material_len, stripes_out_of_range, max_iteration_count}
+use Rattle.luks_format.specs.Derivation.{is_in_range}
+use Rattle.luks_format.specs.Slot.{has_no_usable_digest, material_end}
+use Rattle.luks_format.specs.Slot.{slot_from, verdict_kind_of}
+use Rattle.luks_format.proofs.MadeLemmas.{are_in_range, digest_from-no, digest_from-yes, digest_of, digest_there}
+use Rattle.luks_format.proofs.MadeLemmas.{is_usable, mapped, of_usable, slot_from-yes, slot_of, some_from_not_none}
+use Rattle.luks_format.specs.declared.derivation.Argon2Limits.{Argon2Limits}
+use Rattle.luks_format.specs.declared.derivation.Derivation.{Derivation}
+use Rattle.luks_format.specs.declared.derivation.Derivation.TheVariants.{Pbkdf2, Argon2}
+use Rattle.luks_format.specs.declared.derivation.Limits.{Limits}
+use Rattle.luks_format.specs.declared.digest.KeyDigest.{KeyDigest}
+use Rattle.luks_format.specs.declared.refusal.SkipReason.{SkipReason}
+use Rattle.luks_format.specs.declared.refusal.SkipReason.TheVariants.{Iterations, Argon2Time, Argon2Cpus}
+use Rattle.luks_format.specs.declared.refusal.SkipReason.TheVariants.{Argon2Memory}
+use Rattle.luks_format.specs.declared.slot.Slot.{Slot}
+use Rattle.luks_format.specs.declared.slot.SlotParts.{SlotParts}
+use Rattle.luks_format.specs.declared.slot.Verdict.TheVariants.{Usable}
+use Rattle.luks_format.specs.declared.slot.VerdictKind.TheVariants.{Usable as KindUsable}
 use Rattle.luks_kdf.specs.declared.hash.Hash.{Hash}
 use Rattle.luks_cipher.specs.Sector.{is_mode_key_length}
 use Rattle.luks2_json.specs.Numbered.{object_numbered}
 use Rattle.luks2_json.specs.Member.{base64_member, in_member, is_length_for, passes}
-use Rattle.luks_verdict.proofs.TableLemmas.{none_holds}
+use Rattle.luks_format.proofs.TableLemmas.{none_holds}
 use Rattle.luks2_metadata.specs.Digest2.{digest2_for, digest2_of, digest_parts2_of, is_digest2, iterations_of_digest}
 use Rattle.luks2_metadata.specs.declared.bounds.Bounds.{Bounds}
 use Rattle.luks2_metadata.specs.Segment2.{payload2_start, payload_mode2_of}

@@ -1,15 +1,15 @@
 -- The digests of LUKS2 (LUKS2 On-Disk Format Specification 1.1, section 3, the digests object).
 use Rattle.std.specs.Prelude.{ℕ, ◌&&◌, Bool, List, [], Option, None, codes, decimal, is_some, if◌then◌else◌}
 use Rattle.std.specs.Prelude.{option_and_then, option_map, unwrap_or}
-use Rattle.luks_verdict.specs.Slot.{digest_from}
-use Rattle.luks_verdict.specs.Rule.{max_slots}
-use Rattle.luks_verdict.specs.Table.{ascending}
-use Rattle.luks_verdict.specs.declared.digest.DigestParts.{DigestParts}
-use Rattle.luks_verdict.specs.declared.digest.KeyDigest.{KeyDigest}
+use Rattle.luks_format.specs.Slot.{digest_from}
+use Rattle.luks_format.specs.Rule.{max_slots}
+use Rattle.luks_format.specs.Table.{ascending}
+use Rattle.luks_format.specs.declared.digest.DigestParts.{DigestParts}
+use Rattle.luks_format.specs.declared.digest.KeyDigest.{KeyDigest}
 use Rattle.luks2_json.specs.List.{has_strings, array_contains, strings_at}
 use Rattle.luks2_json.specs.Member.{base64_member, hash_member, integer_member, is_type}
 use Rattle.luks2_json.specs.Numbered.{lowest, object_numbered}
-use Rattle.luks2_metadata.specs.declared.digest.Digest.{Digest}
+use Rattle.luks2_metadata.specs.declared.luks2_digest.Digest.{Digest}
 use Rattle.serde_json.specs.Data.{Data}
 
 -- every member of the digest is present and of the right type, and its hash function is known

@@ -4,8 +4,8 @@ use Rattle.std.specs.Prelude.{nat_lt, option_map, unwrap_or}
 use Rattle.std.specs.Option.{option_map_or}
 use Rattle.luks_argon2.specs.declared.variant.Variant.{Variant}
 use Rattle.luks_argon2.specs.declared.variant.Variant.TheVariants.{Argon2i, Argon2id}
-use Rattle.luks_verdict.specs.declared.derivation.Derivation.{Derivation}
-use Rattle.luks_verdict.specs.declared.derivation.Derivation.TheVariants.{Pbkdf2, Argon2}
+use Rattle.luks_format.specs.declared.derivation.Derivation.{Derivation}
+use Rattle.luks_format.specs.declared.derivation.Derivation.TheVariants.{Pbkdf2, Argon2}
 use Rattle.luks2_json.specs.Member.{base64_member, hash_member, in_member, integer_member, is_type, passes}
 use Rattle.serde_json.specs.Data.{Data}
 

@@ -6,15 +6,15 @@ use Rattle.std.specs.Prelude.{Result, codes, is_none, is_some, if◌then◌else�
 use Rattle.std.specs.Option.{option_map_or}
 use Rattle.std.specs.Result.{result_ok}
 use Rattle.luks_cipher.specs.declared.mode.Mode.{Mode}
-use Rattle.luks_verdict.specs.SectorSize.{has_whole_sectors, sector_size_with}
-use Rattle.luks_verdict.specs.Segment.{refused_or, segment_from}
-use Rattle.luks_verdict.specs.Table.{first_match}
-use Rattle.luks_verdict.specs.declared.refusal.SegmentFault.{SegmentFault}
-use Rattle.luks_verdict.specs.declared.refusal.SegmentFault.TheVariants.{Requirement, Segments, Member, Kind, Integrity}
-use Rattle.luks_verdict.specs.declared.refusal.SegmentFault.TheVariants.{Encryption, SectorSize, Offset, Size}
-use Rattle.luks_verdict.specs.declared.sector_size.SectorSize.{SectorSize as Sector}
-use Rattle.luks_verdict.specs.declared.segment.Segment.{Segment}
-use Rattle.luks_verdict.specs.declared.segment.SegmentParts.{SegmentParts}
+use Rattle.luks_format.specs.SectorSize.{has_whole_sectors, sector_size_with}
+use Rattle.luks_format.specs.Segment.{refused_or, segment_from}
+use Rattle.luks_format.specs.Table.{first_match}
+use Rattle.luks_format.specs.declared.refusal.SegmentFault.{SegmentFault}
+use Rattle.luks_format.specs.declared.refusal.SegmentFault.TheVariants.{Requirement, Segments, Member, Kind, Integrity}
+use Rattle.luks_format.specs.declared.refusal.SegmentFault.TheVariants.{Encryption, SectorSize, Offset, Size}
+use Rattle.luks_format.specs.declared.sector_size.SectorSize.{SectorSize as Sector}
+use Rattle.luks_format.specs.declared.segment.Segment.{Segment}
+use Rattle.luks_format.specs.declared.segment.SegmentParts.{SegmentParts}
 use Rattle.luks2_metadata.specs.declared.bounds.Bounds.{Bounds}
 use Rattle.luks2_json.specs.Member.{decimal_member, has, string_is, is_type, string_member, integer_member, in_member}
 use Rattle.luks2_json.specs.Member.{encryption_mode}

@@ -3,25 +3,25 @@ use Rattle.std.specs.Prelude.{ℕ, ◌&&◌, ◌||◌, not, nat_le, Bool, List, 
 use Rattle.std.specs.Prelude.{is_some, if◌then◌else◌, option_and_then, option_map, unwrap_or}
 use Rattle.luks_cipher.specs.declared.mode.Mode.{Mode}
 use Rattle.std.specs.Option.{option_or}
-use Rattle.luks_verdict.specs.Derivation.{derivation_refusal, has_known_hash}
-use Rattle.luks_verdict.specs.Rule.{area_out_of_range, stripes_out_of_range, key_material_len}
-use Rattle.luks_verdict.specs.Slot.{has_no_usable_digest, slot_from, verdict_by}
-use Rattle.luks_verdict.specs.Table.{first_match}
-use Rattle.luks_verdict.specs.declared.refusal.SkipReason.{SkipReason}
-use Rattle.luks_verdict.specs.declared.refusal.SkipReason.TheVariants.{Kind, Member, Argon2i, Argon2id, Kdf}
-use Rattle.luks_verdict.specs.declared.refusal.SkipReason.TheVariants.{Hash as SkipHash, Encryption, KeySize}
-use Rattle.luks_verdict.specs.declared.refusal.SkipReason.TheVariants.{Stripes, Area, Digest}
-use Rattle.luks_verdict.specs.declared.derivation.Limits.{Limits}
-use Rattle.luks_verdict.specs.declared.slot.Slot.{Slot}
-use Rattle.luks_verdict.specs.declared.slot.SlotParts.{SlotParts}
-use Rattle.luks_verdict.specs.declared.slot.Verdict.{Verdict}
+use Rattle.luks_format.specs.Derivation.{derivation_refusal, has_known_hash}
+use Rattle.luks_format.specs.Rule.{area_out_of_range, stripes_out_of_range, key_material_len}
+use Rattle.luks_format.specs.Slot.{has_no_usable_digest, slot_from, verdict_by}
+use Rattle.luks_format.specs.Table.{first_match}
+use Rattle.luks_format.specs.declared.refusal.SkipReason.{SkipReason}
+use Rattle.luks_format.specs.declared.refusal.SkipReason.TheVariants.{Kind, Member, Argon2i, Argon2id, Kdf}
+use Rattle.luks_format.specs.declared.refusal.SkipReason.TheVariants.{Hash as SkipHash, Encryption, KeySize}
+use Rattle.luks_format.specs.declared.refusal.SkipReason.TheVariants.{Stripes, Area, Digest}
+use Rattle.luks_format.specs.declared.derivation.Limits.{Limits}
+use Rattle.luks_format.specs.declared.slot.Slot.{Slot}
+use Rattle.luks_format.specs.declared.slot.SlotParts.{SlotParts}
+use Rattle.luks_format.specs.declared.slot.Verdict.{Verdict}
 use Rattle.luks2_json.specs.Member.{base64_member, decimal_member, has, is_type, passes, string_member, integer_member}
 use Rattle.luks2_json.specs.Member.{in_member, hash_member, is_length_for, encryption_mode}
 use Rattle.luks2_metadata.specs.Digest2.{digest2_for}
 use Rattle.luks2_metadata.specs.Kdf2.{kdf2_of, is_argon2, is_kdf_type, variant_of}
 use Rattle.luks2_json.specs.Numbered.{object_numbered}
 use Rattle.luks2_metadata.specs.declared.bounds.Bounds.{Bounds}
-use Rattle.luks2_metadata.specs.declared.slot.values.SlotValues.{SlotValues}
+use Rattle.luks2_metadata.specs.declared.luks2_slot.values.SlotValues.{SlotValues}
 use Rattle.luks2_metadata.specs.Segment2.{payload2_start, payload_mode2_of}
 use Rattle.serde_json.specs.Data.{Data}
 

@@ -4,6 +4,6 @@
 #![tactic(auto)]
 
 pub mod bounds;
-pub mod digest;
-pub mod segment;
-pub mod slot;
+pub mod luks2_digest;
+pub mod luks2_segment;
+pub mod luks2_slot;

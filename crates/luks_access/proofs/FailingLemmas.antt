@@ -3,10 +3,10 @@ use Rattle.std.proofs.Common.{◌≡◌, ℕ, ◌+◌, ◌-◌, ◌*◌, ◌/◌
 use Rattle.std.proofs.Common.{◌∙◌, List, None, Option, Some, ap, false, inl, inr, refl, suc, sym, true, zero}
 use Rattle.std.proofs.lemmas.Bool.{cases_lt}
 use Rattle.std.specs.Prelude.{if◌then◌else◌}
-use Rattle.luks_header_area.specs.Area.{max_loaded_len}
+use Rattle.luks_format.specs.Area.{max_loaded_len}
 use Rattle.std.proofs.Math.Nat.{lt_of_mul-lt-mul_left, mod-add-div', mod-lt}
-use Rattle.luks_verdict.proofs.SectorLemmas.{sector_blocks}
-use Rattle.luks_verdict.specs.declared.segment.Segment.{Segment}
+use Rattle.luks_format.proofs.SectorLemmas.{sector_blocks}
+use Rattle.luks_format.specs.declared.segment.Segment.{Segment}
 use Rattle.luks_payload.specs.Plain.{sector_len}
 use Rattle.luks_access.specs.Sectors.{FailsAtStart, FailsInRange, FailsWithin, fails_at_start, fails_below}
 use Rattle.luks_access.specs.Steps.{IsStep}

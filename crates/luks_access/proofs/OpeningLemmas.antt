@@ -3,28 +3,30 @@ use Rattle.std.proofs.Common.{◌≡◌, ℕ, List, Result, Ok, Err, ◌∙◌, 
 use Rattle.std.proofs.Common.{Option, arith, take}
 use Rattle.std.proofs.lemmas.List.{take-take}
 use Rattle.std.specs.Prelude.{IfErr, is_some, nat_lt, if◌then◌else◌}
-use Rattle.luks_header_area.specs.Area.{max_loaded_len}
-use Rattle.luks_key_slots.specs.Fault.{aborts_opening}
-use Rattle.luks_key_slots.specs.declared.fault.PassphraseFault.{PassphraseFault}
-use Rattle.luks_key_slots.specs.declared.fault.PassphraseFault.TheVariants.{TooLong}
-use Rattle.luks_key_slots.specs.declared.fault.VolumeFault.{VolumeFault}
-use Rattle.luks_key_slots.specs.declared.fault.OpenFault.TheVariants.{Memory}
-use Rattle.luks_key_slots.specs.declared.fault.VolumeFault.TheVariants.{Argon2Memory, Passphrase, Slots}
-use Rattle.luks_key_slots.specs.declared.opening.Opened.{Opened}
+use Rattle.luks_format.specs.Area.{max_loaded_len}
+use Rattle.luks_open.specs.Fault.{aborts_opening}
+use Rattle.luks_open.specs.declared.fault.PassphraseFault.{PassphraseFault}
+use Rattle.luks_open.specs.declared.fault.PassphraseFault.TheVariants.{TooLong}
+use Rattle.luks_open.specs.declared.fault.VolumeFault.{VolumeFault}
+use Rattle.luks_open.specs.declared.fault.OpenFault.TheVariants.{Memory}
+use Rattle.luks_open.specs.declared.fault.VolumeFault.TheVariants.{Argon2Memory, Passphrase, Slots}
+use Rattle.luks_open.specs.declared.opening.Opened.{Opened}
 use Rattle.luks_report.specs.Faults.{message_at_end}
 use Rattle.luks_report.specs.declared.message.Message.TheVariants.{Done}
-use Rattle.luks_runs.specs.Allowed.{pbkdf2_alone}
+use Rattle.luks_open.specs.Allowed.{pbkdf2_alone}
 use Rattle.luks_runs.specs.Run.{Outcome}
-use Rattle.luks_runs.specs.Location.{reader_for}
-use Rattle.luks_runs.specs.declared.location.HeaderLocation.{HeaderLocation}
-use Rattle.luks_runs.specs.declared.location.HeaderLocation.TheVariants.{Attached, Detached}
+use Rattle.luks_open.specs.Location.{reader_for}
+use Rattle.luks_open.specs.declared.location.HeaderLocation.{HeaderLocation}
+use Rattle.luks_open.specs.declared.location.HeaderLocation.TheVariants.{Attached, Detached}
 use Rattle.luks_runs.proofs.HonestVolumes.{unsealed}
-use Rattle.luks_runs.proofs.PrefixLemmas.{opening_decided}
-use Rattle.luks_runs.proofs.VolumeLemmas.{message_says}
-use Rattle.luks_runs.specs.Volume.{CanBeTried, OnOpened, OpeningMatches, OpeningMessage, VolumeOpening, opened_of}
-use Rattle.luks_runs.specs.Volume.{outcome_by, payload_outcome, volume_opening_by, volume_outcome_by}
-use Rattle.luks_runs.specs.declared.unlocked.UnlockedVolume.{UnlockedVolume}
-use Rattle.luks_verdict.specs.declared.segment.Segment.{Segment}
+use Rattle.luks_open.proofs.PrefixLemmas.{opening_decided}
+use Rattle.luks_runs.proofs.OutcomeLemmas.{message_says}
+use Rattle.luks_open.specs.Volume.{CanBeTried, OpeningMatches, VolumeOpening, opened_of}
+use Rattle.luks_runs.specs.VolumeOutcome.{OnOpened, OpeningMessage}
+use Rattle.luks_runs.specs.VolumeOutcome.{outcome_by, payload_outcome, volume_outcome_by}
+use Rattle.luks_open.specs.Volume.{volume_opening_by}
+use Rattle.luks_open.specs.declared.unlocked.UnlockedVolume.{UnlockedVolume}
+use Rattle.luks_format.specs.declared.segment.Segment.{Segment}
 use Rattle.luks_payload.proofs.SectorLemmas.{by_ending}
 use Rattle.luks_payload.specs.Plain.{ending_of, ending_of_len, plain_of, sector_len}
 use Rattle.luks_payload.specs.declared.fault.PayloadFault.{PayloadFault}

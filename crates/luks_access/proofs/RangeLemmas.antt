@@ -13,7 +13,7 @@ use Rattle.luks_cipher.proofs.UnitLemmas.{joined_more}
 use Rattle.luks_cipher.proofs.UnitsUndone.{joined_same}
 use Rattle.luks_cipher.specs.Sector.{Cipher, sector_decrypted, units_decrypted}
 use Rattle.luks_cipher.specs.Xts.{joined}
-use Rattle.luks_verdict.specs.declared.segment.Segment.{Segment}
+use Rattle.luks_format.specs.declared.segment.Segment.{Segment}
 use Rattle.luks_payload.specs.Plain.{plain_of, sector_len, sector_plaintext, sector_start, sectors_of}
 use Rattle.luks_payload.specs.Plain.{unit_number, unit_plain, payload_bytes}
 use Rattle.luks_payload.proofs.SectorLemmas.{one_more_fits}
@@ -28,7 +28,7 @@ use Rattle.luks_access.specs.declared.image.ReadAtFault.{ReadAtFault}
 use Rattle.luks_access.specs.declared.image.ReadAtFault.TheVariants.{Failed, Ended}
 use Rattle.luks_access.specs.declared.fault.RangeFault.{RangeFault}
 use Rattle.luks_access.specs.declared.fault.RangeFault.TheVariants.{PastEnd, Read, Shorter}
-use Rattle.luks_header_area.proofs.FieldLemmas.{at_prefix}
+use Rattle.luks_format.proofs.FieldLemmas.{at_prefix}
 
 -- ---- joined pieces
 

@@ -5,9 +5,9 @@ use Rattle.std.proofs.Common.{arith, ap, refl, sym, ◌∙◌, inl, inr}
 use Rattle.std.proofs.Math.Nat.{add-mul-mod_self_right, mod-add-div', mod-eq_of_lt}
 use Rattle.std.proofs.Math.Seq.{take-add}
 use Rattle.std.proofs.lemmas.List.{drop-drop}
-use Rattle.luks_header_area.proofs.FieldLemmas.{at_prefix}
+use Rattle.luks_format.proofs.FieldLemmas.{at_prefix}
 use Rattle.luks_cipher.specs.Sector.{Cipher}
-use Rattle.luks_verdict.specs.declared.segment.Segment.{Segment}
+use Rattle.luks_format.specs.declared.segment.Segment.{Segment}
 use Rattle.luks_payload.specs.Plain.{plain_of, sector_len}
 use Rattle.luks_access.proofs.RangeLemmas.{part_of_plain, starts, step_stored}
 use Rattle.luks_access.specs.Sectors.{plain_at, plaintext_len}

@@ -2,24 +2,24 @@
 use Rattle.std.specs.Prelude.{ℕ, ◌*◌, List, MatchBool, Option, Some, option_map, Result, Ok, Err, if◌then◌else◌, length}
 use Rattle.luks_io.specs.Devices.{ConsumedAtMost, ConsumedExactly}
 use Rattle.luks_cipher.specs.Sector.{is_mode_key_length}
-use Rattle.luks_header_area.specs.declared.fault.HeaderFault.{HeaderFault}
-use Rattle.luks_verdict.specs.declared.refusal.SegmentFault.{SegmentFault}
-use Rattle.luks_verdict.specs.declared.segment.Segment.{Segment}
-use Rattle.luks1_header.specs.Header1.{header1_len, is_luks1}
+use Rattle.luks_format.specs.declared.fault.HeaderFault.{HeaderFault}
+use Rattle.luks_format.specs.declared.refusal.SegmentFault.{SegmentFault}
+use Rattle.luks_format.specs.declared.segment.Segment.{Segment}
+use Rattle.luks_format.specs.Header1.{header1_len, is_luks1}
 use Rattle.luks2_binary.specs.Choice2.{chosen2_of}
 use Rattle.luks2_binary.specs.declared.header.Header2.{Header2}
 use Rattle.luks_header.specs.Header.{header_read_len}
 use Rattle.luks_header.specs.HeaderSegment.{segment_of}
 use Rattle.luks_header.specs.declared.header.Header.{Header}
-use Rattle.luks_key_slots.specs.Fault.{aborts_opening, has_fault}
-use Rattle.luks_key_slots.specs.VolumeKey.{compared, key_digest_of}
-use Rattle.luks_key_slots.specs.declared.fault.OpenFault.TheVariants.{Memory}
-use Rattle.luks_key_slots.specs.declared.fault.VolumeFault.{VolumeFault}
-use Rattle.luks_key_slots.specs.declared.fault.VolumeFault.TheVariants as V
-use Rattle.luks_key_slots.specs.declared.volume_key.KeyCheck.{KeyCheck}
-use Rattle.luks_key_slots.specs.declared.volume_key.KeyCheck.TheVariants.{Differs}
-use Rattle.luks_runs.specs.Location.{reader_for}
-use Rattle.luks_runs.specs.declared.location.HeaderLocation.{HeaderLocation}
+use Rattle.luks_open.specs.Fault.{aborts_opening, has_fault}
+use Rattle.luks_open.specs.VolumeKey.{compared, key_digest_of}
+use Rattle.luks_open.specs.declared.fault.OpenFault.TheVariants.{Memory}
+use Rattle.luks_open.specs.declared.fault.VolumeFault.{VolumeFault}
+use Rattle.luks_open.specs.declared.fault.VolumeFault.TheVariants as V
+use Rattle.luks_open.specs.declared.volume_key.KeyCheck.{KeyCheck}
+use Rattle.luks_open.specs.declared.volume_key.KeyCheck.TheVariants.{Differs}
+use Rattle.luks_open.specs.Location.{reader_for}
+use Rattle.luks_open.specs.declared.location.HeaderLocation.{HeaderLocation}
 
 -- comparing a key may end with this fault
 abbrev pub KeyCheckFault : VolumeFault → Type 0

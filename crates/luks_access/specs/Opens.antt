@@ -1,25 +1,26 @@
 -- Which volume is opened, compared with `luksCat`.
 use Rattle.std.specs.Prelude.{ℕ, ◌≡◌, List, Ok, IfErr, IfOk, false, true, is_some, Option, Result, Err}
 use Rattle.luks_cipher.specs.Sector.{Cipher}
-use Rattle.luks_key_slots.specs.Fault.{aborts_opening, has_fault}
-use Rattle.luks_key_slots.specs.declared.fault.OpenFault.TheVariants.{Memory}
-use Rattle.luks_key_slots.specs.declared.fault.PassphraseFault.{PassphraseFault}
-use Rattle.luks_key_slots.specs.declared.fault.PassphraseFault.TheVariants.{TooLong}
-use Rattle.luks_key_slots.specs.declared.fault.VolumeFault.{VolumeFault}
-use Rattle.luks_key_slots.specs.declared.fault.VolumeFault.TheVariants as V
+use Rattle.luks_open.specs.Fault.{aborts_opening, has_fault}
+use Rattle.luks_open.specs.declared.fault.OpenFault.TheVariants.{Memory}
+use Rattle.luks_open.specs.declared.fault.PassphraseFault.{PassphraseFault}
+use Rattle.luks_open.specs.declared.fault.PassphraseFault.TheVariants.{TooLong}
+use Rattle.luks_open.specs.declared.fault.VolumeFault.{VolumeFault}
+use Rattle.luks_open.specs.declared.fault.VolumeFault.TheVariants as V
 use Rattle.luks_report.specs.Faults.{message_at_end}
-use Rattle.luks_key_slots.specs.declared.opening.Opened.{Opened}
-use Rattle.luks_request.specs.declared.command.SlotChoice.{SlotChoice}
-use Rattle.luks_runs.specs.Allowed.{pbkdf2_alone}
-use Rattle.luks_runs.specs.declared.allowed.AllowedSlots.{AllowedSlots}
+use Rattle.luks_open.specs.declared.opening.Opened.{Opened}
+use Rattle.luks_open.specs.declared.allowed.SlotChoice.{SlotChoice}
+use Rattle.luks_open.specs.Allowed.{pbkdf2_alone}
+use Rattle.luks_open.specs.declared.allowed.AllowedSlots.{AllowedSlots}
 use Rattle.luks_runs.specs.Run.{Outcome}
-use Rattle.luks_runs.specs.Location.{detached_header_of, reader_for}
-use Rattle.luks_runs.specs.declared.location.HeaderLocation.{HeaderLocation}
-use Rattle.luks_runs.specs.declared.location.HeaderLocation.TheVariants.{Attached, Detached}
+use Rattle.luks_open.specs.Location.{detached_header_of, reader_for}
+use Rattle.luks_open.specs.declared.location.HeaderLocation.{HeaderLocation}
+use Rattle.luks_open.specs.declared.location.HeaderLocation.TheVariants.{Attached, Detached}
 use Rattle.luks_runs.specs.Honest.{OpensHonest}
-use Rattle.luks_runs.specs.Volume.{CanBeTried, ConsumedUnless, VolumeOpening, opened_of, payload_outcome, volume_opening_by}
-use Rattle.luks_runs.specs.Volume.{volume_outcome, volume_outcome_by}
-use Rattle.luks_runs.specs.declared.unlocked.UnlockedVolume.{UnlockedVolume}
+use Rattle.luks_open.specs.Volume.{CanBeTried, ConsumedUnless, VolumeOpening, opened_of, volume_opening_by}
+use Rattle.luks_runs.specs.VolumeOutcome.{payload_outcome}
+use Rattle.luks_runs.specs.VolumeOutcome.{volume_outcome, volume_outcome_by}
+use Rattle.luks_open.specs.declared.unlocked.UnlockedVolume.{UnlockedVolume}
 use Rattle.luks_payload.specs.Plain.{ending_of, plain_of}
 use Rattle.luks_payload.specs.declared.state.Step.TheVariants.{End}
 use Rattle.luks_access.specs.declared.options.Options.{Options}

@@ -1,7 +1,7 @@
 -- Steps of reading a range of a plaintext.
 use Rattle.std.specs.Prelude.{ℕ, ◌≡◌, ◌+◌, ◌-◌, ◌*◌, ◌/◌, ◌%◌, ◌<◌, ◌≤◌, ◌⊎◌, List, [], ◌∷◌, ◌++◌, length, take, drop}
 use Rattle.luks_cipher.specs.Sector.{Cipher}
-use Rattle.luks_verdict.specs.declared.segment.Segment.{Segment}
+use Rattle.luks_format.specs.declared.segment.Segment.{Segment}
 use Rattle.luks_payload.specs.Plain.{sector_len, sector_start}
 use Rattle.luks_access.specs.Sectors.{IsAt, plain_at, plain_in, plaintext_len}
 use Rattle.luks_access.specs.declared.step.ReadStep.{ReadStep}

@@ -3,7 +3,7 @@
 ghost use Rattle.std.specs.Prelude.{◌≡◌};
 ghost use Rattle.luks_access.specs.Keys.{headers_end};
 
-use luks1_header::header::{HEADER1_LEN, is_header1};
+use luks_format::header::{HEADER1_LEN, is_header1};
 use luks2_binary::header_search::{Search, header2};
 
 /// The number of first bytes of an image, or of the file of a detached header, that hold its

@@ -4,19 +4,19 @@ ghost use Rattle.std.specs.Prelude.{◌≡◌, Bool, IfErr, IfOk, Ok, Err, false
 ghost use Rattle.luks_cipher.specs.Sector.{is_mode_key_length};
 ghost use Rattle.luks_io.specs.Counts.{Reads};
 ghost use Rattle.luks_io.specs.Devices.{IfKnown};
-ghost use Rattle.luks_key_slots.specs.Fault.{aborts_opening, has_fault, is_read_failure};
-ghost use Rattle.luks_runs.specs.Location.{reader_for};
-ghost use Rattle.luks_runs.specs.Volume.{HasSegmentBy};
+ghost use Rattle.luks_open.specs.Fault.{aborts_opening, has_fault, is_read_failure};
+ghost use Rattle.luks_open.specs.Location.{reader_for};
+ghost use Rattle.luks_open.specs.Volume.{HasSegmentBy};
 ghost use Rattle.luks_access.specs.Keys.{ConsumesToCheck, KeyCheckFault, key_check_of};
 
-use luks_header::payload::segment;
+use luks_header::header_segment::segment;
 use luks_header::segment::Segment;
 use luks_io::source::Source;
 use luks_kdf::Work;
-use luks_key_slots::fault::VolumeFault;
-use luks_key_slots::volume_key;
-pub use luks_key_slots::volume_key::KeyCheck;
-use luks_runs::location::{HeaderLocation, read_header_at};
+use luks_open::fault::VolumeFault;
+use luks_open::location::{HeaderLocation, read_header_at};
+use luks_open::volume_key;
+pub use luks_open::volume_key::KeyCheck;
 use std::alloc::Global;
 
 /// Compares a volume key with the digest in a header: the lowest-numbered usable digest that lists

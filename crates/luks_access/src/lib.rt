@@ -7,10 +7,10 @@
 pub use luks_header::derivation::Argon2Limits;
 pub use luks_header::fault::HeaderFault;
 pub use luks_header::refusal::SegmentFault;
-pub use luks_key_slots::fault::{OpenFault, PassphraseFault, VolumeFault};
+pub use luks_open::allowed::SlotChoice;
+pub use luks_open::fault::{OpenFault, PassphraseFault, VolumeFault};
+pub use luks_open::location::HeaderLocation;
 pub use luks_report::message::Message;
-pub use luks_request::command::SlotChoice;
-pub use luks_runs::location::HeaderLocation;
 
 pub mod fault;
 pub mod file;

@@ -4,9 +4,8 @@ ghost use Rattle.std.specs.Prelude.{◌≡◌};
 ghost use Rattle.luks_access.specs.Opens.{allowed_by};
 
 use luks_header::derivation::{Argon2Limits, Limits};
-use luks_request::command::SlotChoice;
-use luks_runs::allowed::AllowedSlots;
-use luks_runs::location::HeaderLocation;
+use luks_open::allowed::{AllowedSlots, SlotChoice};
+use luks_open::location::HeaderLocation;
 
 /// How a volume is opened.
 #[derive(Clone, Copy)]

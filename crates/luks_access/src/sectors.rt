@@ -3,16 +3,16 @@
 ghost use Rattle.std.specs.Prelude.{◌≡◌, ◌+◌, ◌*◌, ◌-◌, ◌/◌, ◌%◌, ◌<◌, ◌≤◌, ◌^◌, List, ℕ, Err};
 ghost use Rattle.std.specs.Prelude.{if◌then◌else◌, length, nat_lt};
 ghost use Rattle.luks_cipher.specs.Expanded.{AreExpanded};
-ghost use Rattle.luks_verdict.specs.SectorSize.{bytes_of};
+ghost use Rattle.luks_format.specs.SectorSize.{bytes_of};
 ghost use Rattle.luks_payload.specs.Plain.{ending_of_len, sector_len, payload_bytes};
 ghost use Rattle.luks_access.specs.Sectors.{AreStored, plain_at, plain_in};
 
 use luks_cipher::ExpandedKeys;
+use luks_format::sector_size::SectorSize;
 use luks_header::segment::Segment;
 use luks_payload::fault::PayloadFault;
 use luks_payload::sector::unit_number;
 use luks_payload::state::Step;
-use luks_verdict::sector_size::SectorSize;
 
 /// The length in bytes of a payload's plaintext: all its whole sectors. The payload is in an image
 /// of `image_len` bytes, from `offset` on, and its size may be fixed.

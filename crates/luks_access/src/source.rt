@@ -1,7 +1,7 @@
 //! The start of an image that is read at offsets, as a source of its bytes.
 
 ghost use Rattle.std.specs.Prelude.{◌≡◌, ◌<◌, ◌≤◌, length, true};
-ghost use Rattle.luks_header_area.specs.Area.{max_loaded_len};
+ghost use Rattle.luks_format.specs.Area.{max_loaded_len};
 ghost use Rattle.luks_io.specs.Counts.{unread};
 ghost use Rattle.luks_io.specs.Devices.{IfKnown};
 ghost use Rattle.luks_access.specs.Sectors.{FailsAtStart, remaining_from, image_start};

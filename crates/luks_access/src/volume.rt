@@ -6,7 +6,7 @@ ghost use Rattle.std.specs.Prelude.{IfErr, IfOk, OnOk, length, replicate, true};
 ghost use Rattle.luks_cipher.specs.Expanded.{AreExpanded};
 ghost use Rattle.luks_io.specs.Counts.{Reads};
 ghost use Rattle.luks_io.specs.Devices.{IfKnown};
-ghost use Rattle.luks_key_slots.specs.Fault.{has_fault, is_read_failure};
+ghost use Rattle.luks_open.specs.Fault.{has_fault, is_read_failure};
 ghost use Rattle.luks_payload.specs.Plain.{ending_of, sector_len};
 ghost use Rattle.luks_access.specs.Sectors.{FailsAtStart, FailsInRange, IsRangeOf};
 ghost use Rattle.luks_access.specs.Opens.{EndsOpening, OpensVolume, RefusesVolume};
@@ -19,17 +19,17 @@ use crate::range::Plaintext;
 use crate::sectors::{payload_ending, plaintext_len};
 use crate::source::{FailedRead, StartSource};
 use crate::step::is_within;
-use luks_argon2_slots::with_argon2::WithArgon2;
 use luks_cipher::ExpandedKeys;
 use luks_header::segment::Segment;
 use luks_io::source::Source;
 use luks_kdf::Work;
-use luks_key_slots::fault::{PassphraseFault, VolumeFault};
+use luks_open::fault::{PassphraseFault, VolumeFault};
+use luks_open::found::find_volume;
+use luks_open::trying::try_slots;
+use luks_open::unlocked::UnlockedVolume;
+use luks_open::with_argon2::WithArgon2;
 use luks_payload::fault::PayloadFault;
 use luks_payload::state::Step;
-use luks_runs::found::find_volume;
-use luks_runs::trying::try_slots;
-use luks_runs::unlocked::UnlockedVolume;
 use std::alloc::Global;
 use std::marker::{Brand, Model};
 
@@ -46,7 +46,7 @@ pub struct Volume {
 
 impl Model for Volume {
     ghost use Rattle.luks_cipher.specs.Expanded.{AreExpanded};
-    ghost use Rattle.luks_runs.specs.declared.unlocked.UnlockedVolume.{UnlockedVolume};
+    ghost use Rattle.luks_open.specs.declared.unlocked.UnlockedVolume.{UnlockedVolume};
 
     ghost Value = { UnlockedVolume };
 

@@ -3,10 +3,10 @@ use Rattle.std.specs.Prelude.{ℕ, ◌&&◌, ◌==◌, Bool, false, List, [], �
 use Rattle.std.specs.Prelude.{if◌then◌else◌, length, map, not, option_and_then, option_map, slice_get, unwrap_or}
 use Rattle.std.specs.List.{cons_option}
 use Rattle.luks_report.specs.Findings.{finding_list}
-use Rattle.luks_verdict.specs.Rule.{max_slots}
-use Rattle.luks_verdict.specs.Slot.{verdict_kind_of}
-use Rattle.luks_verdict.specs.declared.derivation.Limits.{Limits}
-use Rattle.luks_verdict.specs.declared.slot.VerdictKind.{VerdictKind}
+use Rattle.luks_format.specs.Rule.{max_slots}
+use Rattle.luks_format.specs.Slot.{verdict_kind_of}
+use Rattle.luks_format.specs.declared.derivation.Limits.{Limits}
+use Rattle.luks_format.specs.declared.slot.VerdictKind.{VerdictKind}
 use Rattle.luks2_json.specs.Numbered.{object_numbered}
 use Rattle.luks_header.specs.SlotVerdicts.{verdict_at, verdict_within}
 use Rattle.luks_header.specs.declared.header.Header.{Header}

@@ -3,10 +3,10 @@ use Rattle.std.specs.Prelude.{ℕ, Bool, true, false, List, [], ◌∷◌, flat_
 use Rattle.luks_report.specs.Findings.{finding_text}
 use Rattle.luks_report.specs.declared.findings.Finding.{Finding}
 use Rattle.luks_report.specs.declared.findings.Finding.TheVariants as F
-use Rattle.luks_verdict.specs.declared.refusal.SegmentFault.{SegmentFault}
-use Rattle.luks_verdict.specs.declared.refusal.SegmentFault.TheVariants as S
-use Rattle.luks_verdict.specs.declared.refusal.SkipReason.{SkipReason}
-use Rattle.luks_verdict.specs.declared.refusal.SkipReason.TheVariants as R
+use Rattle.luks_format.specs.declared.refusal.SegmentFault.{SegmentFault}
+use Rattle.luks_format.specs.declared.refusal.SegmentFault.TheVariants as S
+use Rattle.luks_format.specs.declared.refusal.SkipReason.{SkipReason}
+use Rattle.luks_format.specs.declared.refusal.SkipReason.TheVariants as R
 use Rattle.serde_json.specs.Data.{Data, string}
 
 -- a requirement, a segment of another type, integrity tags, and a cipher or a hash function that luksrd does not know

@@ -2,11 +2,11 @@
 use Rattle.std.specs.Prelude.{ℕ, ◌*◌, ◌++◌, Bool, List, Option, Some, None, codes, not}
 use Rattle.hex.specs.Hex.{encode_lower}
 use Rattle.luks_report.specs.DumpLine.{escaped}
-use Rattle.luks_verdict.specs.Rule.{key_material_len}
-use Rattle.luks_verdict.specs.declared.slot.VerdictKind.{VerdictKind}
-use Rattle.luks1_header.specs.Slot1.{is_disabled}
-use Rattle.luks1_header.specs.declared.header.Header1.{Header1}
-use Rattle.luks1_header.specs.declared.header.StoredSlot.{StoredSlot}
+use Rattle.luks_format.specs.Rule.{key_material_len}
+use Rattle.luks_format.specs.declared.slot.VerdictKind.{VerdictKind}
+use Rattle.luks_format.specs.Slot1.{is_disabled}
+use Rattle.luks_format.specs.declared.header.Header1.{Header1}
+use Rattle.luks_format.specs.declared.header.StoredSlot.{StoredSlot}
 use Rattle.luks_audit.specs.Cipher.{mode_of}
 use Rattle.luks_audit.specs.Verdict.{is_kind_usable, kind_text, reason_in}
 use Rattle.luks_audit.specs.declared.rows.CipherMode.{CipherMode}

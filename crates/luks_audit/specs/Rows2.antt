@@ -5,8 +5,8 @@ use Rattle.hex.specs.Hex.{encode_lower}
 use Rattle.luks_report.specs.DumpLine.{escaped}
 use Rattle.luks_report.specs.Dump2.{role_text}
 use Rattle.luks_kdf.specs.Hash.{hash_name}
-use Rattle.luks_verdict.specs.Rule.{max_slots}
-use Rattle.luks_verdict.specs.declared.slot.VerdictKind.{VerdictKind}
+use Rattle.luks_format.specs.Rule.{max_slots}
+use Rattle.luks_format.specs.declared.slot.VerdictKind.{VerdictKind}
 use Rattle.luks2_binary.specs.declared.header.Header2.{Header2}
 use Rattle.luks2_binary.specs.declared.header.PairFinding.{PairFinding}
 use Rattle.luks2_binary.specs.declared.header.PairFinding.TheVariants.{PrimaryNotValid, SecondaryNotValid}

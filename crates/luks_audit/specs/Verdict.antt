@@ -1,8 +1,8 @@
 -- Whether luksrd can try a key slot, and if not, why.
 use Rattle.std.specs.Prelude.{ℕ, Bool, true, false, List, Option, Some, None, codes}
-use Rattle.luks_verdict.specs.SkipReason.{reason_text}
-use Rattle.luks_verdict.specs.declared.slot.VerdictKind.{VerdictKind}
-use Rattle.luks_verdict.specs.declared.slot.VerdictKind.TheVariants.{Usable, Disabled, Skipped}
+use Rattle.luks_format.specs.SkipReason.{reason_text}
+use Rattle.luks_format.specs.declared.slot.VerdictKind.{VerdictKind}
+use Rattle.luks_format.specs.declared.slot.VerdictKind.TheVariants.{Usable, Disabled, Skipped}
 
 abbrev pub kind_text : VerdictKind → List ℕ
 kind_text (Usable priority) = codes "usable"

@@ -17,12 +17,12 @@ use crate::verdict::is_kind_usable;
 use crate::weak_array::weak_array;
 use crate::weakness::{any_fails, weak_list};
 use crate::{luks1, luks2};
+use luks_format::rule::MAX_SLOTS;
+use luks_format::slot::VerdictKind;
 use luks_header::derivation::{Argon2Limits, Limits};
 use luks_header::header::Header;
-use luks_header::slot::verdict_kind;
+use luks_header::header_slots::verdict_kind;
 use luks_report::findings::finding_list;
-use luks_verdict::rule::MAX_SLOTS;
-use luks_verdict::slot::VerdictKind;
 use luks2_json::numbered::object_numbered;
 use std::alloc::{AllocError, Global};
 

@@ -4,15 +4,15 @@ ghost use Rattle.std.specs.Prelude.{◌≡◌, ◌*◌, IfOk};
 ghost use Rattle.luks_audit.specs.Rows1.{cipher1_of, digest1_row, header1_row, cipher_mode1};
 ghost use Rattle.luks_audit.specs.Rows1.{payload1_row, slot1_row};
 ghost use Rattle.luks_report.specs.DumpLine.{escaped};
-ghost use Rattle.luks1_header.specs.Slot1.{is_disabled};
+ghost use Rattle.luks_format.specs.Slot1.{is_disabled};
 
 use crate::cipher::mode_of;
 use crate::rows::{CipherMode, DigestRow, HeaderRow, Length, PayloadRow, SlotRow};
 use crate::text::{Text, escape};
 use crate::verdict::{is_kind_usable, kind_text, reason_text};
+use luks_format::rule::key_material_len;
+use luks_format::slot::VerdictKind;
 use luks_header::header::{Header1, SlotState, StoredSlot};
-use luks_verdict::rule::key_material_len;
-use luks_verdict::slot::VerdictKind;
 use std::alloc::{AllocError, Global};
 
 /// The binary header.

@@ -19,9 +19,9 @@ use crate::rows::{CipherMode, DigestRow, HeaderRow, Length, PayloadRow, SlotRow,
 use crate::text::Text;
 use crate::tree::Tree;
 use crate::verdict::{is_kind_usable, kind_text, reason_text};
+use luks_format::rule::MAX_SLOTS;
+use luks_format::slot::VerdictKind;
 use luks_header::header::{Header2, HeaderRole, PairFinding};
-use luks_verdict::rule::MAX_SLOTS;
-use luks_verdict::slot::VerdictKind;
 use luks2_json::list::{Names, strings_at};
 use luks2_json::member::{
     base64_len, base64_member, decimal_member, integer_member, is_type, nested_decimal,

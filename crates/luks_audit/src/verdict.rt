@@ -3,7 +3,7 @@
 ghost use Rattle.std.specs.Prelude.{◌≡◌, option_map};
 ghost use Rattle.luks_audit.specs.Verdict.{is_kind_usable, kind_text, reason_in};
 
-use luks_verdict::slot::VerdictKind;
+use luks_format::slot::VerdictKind;
 
 /// Whether luksrd can try a slot, as it is printed.
 pub(crate) fn kind_text(kind: VerdictKind) -> &'static str

@@ -5,7 +5,7 @@ use Rattle.std.specs.Prelude.{IfOk, IsErr, OnErr, OnOk, is_err}
 use Rattle.std.proofs.lemmas.Result.{IfOk-from_err}
 use Rattle.luks_io.specs.Devices.{Appended, IfKnown, counted}
 use Rattle.luks_io.proofs.EffectLemmas.{appended-more, appended-none}
-use Rattle.luks_header_area.specs.declared.fault.HeaderFault.TheVariants.{Memory, Read}
+use Rattle.luks_format.specs.declared.fault.HeaderFault.TheVariants.{Memory, Read}
 use Rattle.luks_search.proofs.PlaceLemmas.{in_near}
 use Rattle.luks_search.specs.Places.{places_below}
 use Rattle.luks_search.specs.Search.{FindsNext, IsIn, IsNear, SearchModel, reports_failed_read}

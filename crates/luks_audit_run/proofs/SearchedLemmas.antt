@@ -4,7 +4,7 @@ use Rattle.std.proofs.Common.{false}
 use Rattle.std.proofs.lemmas.List.{append-nil}
 use Rattle.std.proofs.lemmas.Grind.{flat_map-append}
 use Rattle.std.specs.Prelude.{flat_map}
-use Rattle.luks_header_area.specs.declared.fault.HeaderFault.TheVariants.{NotLuks}
+use Rattle.luks_format.specs.declared.fault.HeaderFault.TheVariants.{NotLuks}
 use Rattle.luks_search.specs.Places.{header_at, places_below, places_of}
 use Rattle.luks_search.specs.Search.{IsIn, SearchModel}
 use Rattle.luks_search.specs.declared.place.Place.{Place}

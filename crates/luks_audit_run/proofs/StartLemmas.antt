@@ -2,8 +2,8 @@
 use Rattle.std.proofs.Common.{◌≡◌, ℕ, List, Option, Result, Err, refl, Bool, true, false, inl, inr}
 use Rattle.std.specs.Prelude.{IfOk, is_err}
 use Rattle.luks_io.specs.Devices.{IfKnown, counted}
-use Rattle.luks_header_area.specs.declared.fault.HeaderFault.{HeaderFault}
-use Rattle.luks_header_area.specs.declared.fault.HeaderFault.TheVariants.{Memory, Read}
+use Rattle.luks_format.specs.declared.fault.HeaderFault.{HeaderFault}
+use Rattle.luks_format.specs.declared.fault.HeaderFault.TheVariants.{Memory, Read}
 use Rattle.luks_audit.specs.Image.{IsAudited, IsAuditedAnyway, fault_line}
 use Rattle.luks_audit.specs.declared.image.Policy.{Policy}
 use Rattle.luks_audit.specs.declared.image.State.{State}

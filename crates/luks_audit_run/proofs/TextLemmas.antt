@@ -1,6 +1,6 @@
 -- What a whole run promises of the text of one image: it is said by the image's bytes, however long the image is.
 use Rattle.std.proofs.Common.{◌≡◌, ◌⊎◌, ℕ, ◌++◌, Bool, List, inl, inr}
-use Rattle.luks_header_area.specs.declared.fault.HeaderFault.TheVariants.{Memory, Read}
+use Rattle.luks_format.specs.declared.fault.HeaderFault.TheVariants.{Memory, Read}
 use Rattle.luks_header.specs.Header.{header_of}
 use Rattle.luks_search.specs.Places.{places_below}
 use Rattle.luks_audit.specs.Image.{fault_line, line_by}

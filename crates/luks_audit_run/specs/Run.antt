@@ -1,8 +1,8 @@
 -- What a run writes, and how it ends.
 use Rattle.std.specs.Prelude.{◌≡◌, ℕ, ◌++◌, Bool, true, false, List, [], ◌∷◌, IfOk, Option, Result, Err, codes, flat_map, is_err, map, take}
-use Rattle.luks_header_area.specs.Area.{is_read_fault}
-use Rattle.luks_header_area.specs.declared.fault.HeaderFault.{HeaderFault}
-use Rattle.luks_header_area.specs.declared.fault.HeaderFault.TheVariants.{Read, Memory}
+use Rattle.luks_format.specs.Area.{is_read_fault}
+use Rattle.luks_format.specs.declared.fault.HeaderFault.{HeaderFault}
+use Rattle.luks_format.specs.declared.fault.HeaderFault.TheVariants.{Read, Memory}
 use Rattle.luks_header.specs.Header.{header_of}
 use Rattle.luks_header.specs.declared.header.Header.{Header}
 use Rattle.luks_io.specs.Devices.{Appended, IfKnown, counted}

@@ -1,7 +1,7 @@
 -- What is written of an image that is searched for headers, and what that shows.
 use Rattle.std.specs.Prelude.{ℕ, List, [], ◌∷◌, Option, Some, None, Result, Ok, Err, flat_map}
-use Rattle.luks_header_area.specs.declared.fault.HeaderFault.{HeaderFault}
-use Rattle.luks_header_area.specs.declared.fault.HeaderFault.TheVariants.{NotLuks, Read, Memory}
+use Rattle.luks_format.specs.declared.fault.HeaderFault.{HeaderFault}
+use Rattle.luks_format.specs.declared.fault.HeaderFault.TheVariants.{NotLuks, Read, Memory}
 use Rattle.luks_header.specs.declared.header.Header.{Header}
 use Rattle.luks_search.specs.Places.{header_at, places_of}
 use Rattle.luks_search.specs.declared.place.SearchFault.{SearchFault}

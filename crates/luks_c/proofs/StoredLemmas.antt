@@ -4,16 +4,16 @@ use Rattle.std.proofs.lemmas.Option.{same_Some}
 use Rattle.std.specs.Prelude.{◌+◌, if◌then◌else◌, nat_le, unwrap_or}
 use Rattle.luks_access.proofs.RangeLemmas.{plaintext_length}
 use Rattle.luks_access.specs.Opens.{cipher_of, plaintext_of}
-use Rattle.luks_runs.specs.declared.unlocked.UnlockedVolume.{UnlockedVolume}
+use Rattle.luks_open.specs.declared.unlocked.UnlockedVolume.{UnlockedVolume}
 use Rattle.luks_cipher.specs.Sector.{Cipher}
 use Rattle.luks_cipher.specs.declared.mode.Mode.{Mode}
 use Rattle.luks_cipher.specs.declared.mode.Mode.TheVariants.{XtsPlain64, XtsPlain, CbcEssivSha256, CbcPlain64}
-use Rattle.luks_verdict.proofs.MadeLemmas.{segment_by, segment_of_all-yes}
-use Rattle.luks_verdict.proofs.SectorLemmas.{sector_size_again}
-use Rattle.luks_verdict.specs.Segment.{segment_from}
-use Rattle.luks_verdict.specs.SectorSize.{bytes_of, sector_size_with}
-use Rattle.luks_verdict.specs.declared.sector_size.SectorSize.{SectorSize}
-use Rattle.luks_verdict.specs.declared.segment.Segment.{Segment}
+use Rattle.luks_format.proofs.MadeLemmas.{segment_by, segment_of_all-yes}
+use Rattle.luks_format.proofs.SectorLemmas.{sector_size_again}
+use Rattle.luks_format.specs.Segment.{segment_from}
+use Rattle.luks_format.specs.SectorSize.{bytes_of, sector_size_with}
+use Rattle.luks_format.specs.declared.sector_size.SectorSize.{SectorSize}
+use Rattle.luks_format.specs.declared.segment.Segment.{Segment}
 use Rattle.luks_payload.specs.Plain.{payload_bytes}
 use Rattle.luks_access.specs.Steps.{IsNextStep}
 use Rattle.luks_c.specs.Steps.{Plans, plan_code, plan_code_by, plain_len_of, prepare_code, prepare_code_by, step_in}

@@ -1,14 +1,14 @@
 -- What `luksrd_check_key` and `luksrd_open_by_key` answer: a known volume key compared with a header.
 use Rattle.std.specs.Prelude.{ℕ, ◌≡◌, ◌≢◌, ◌==◌, Bool, false, true, List, Ok, Err, if◌then◌else◌, length}
 use Rattle.luks_cipher.specs.Sector.{is_mode_key_length}
-use Rattle.luks_verdict.specs.declared.segment.Segment.{Segment}
-use Rattle.luks_runs.specs.Location.{reader_for}
-use Rattle.luks_runs.specs.Volume.{HasSegmentBy}
+use Rattle.luks_format.specs.declared.segment.Segment.{Segment}
+use Rattle.luks_open.specs.Location.{reader_for}
+use Rattle.luks_open.specs.Volume.{HasSegmentBy}
 use Rattle.luks_access.specs.Keys.{KeyCheckFault, key_check_of}
-use Rattle.luks_key_slots.specs.Fault.{aborts_opening, is_read_failure}
-use Rattle.luks_key_slots.specs.declared.fault.VolumeFault.{VolumeFault}
-use Rattle.luks_key_slots.specs.declared.volume_key.KeyCheck.{KeyCheck}
-use Rattle.luks_key_slots.specs.declared.volume_key.KeyCheck.TheVariants.{Matches, Differs, NoDigest}
+use Rattle.luks_open.specs.Fault.{aborts_opening, is_read_failure}
+use Rattle.luks_open.specs.declared.fault.VolumeFault.{VolumeFault}
+use Rattle.luks_open.specs.declared.volume_key.KeyCheck.{KeyCheck}
+use Rattle.luks_open.specs.declared.volume_key.KeyCheck.TheVariants.{Matches, Differs, NoDigest}
 use Rattle.luks_report.specs.Faults.{message_for_volume}
 use Rattle.luks_c.specs.Stored.{BeginsAs, FilledBy, IsCleared, StoresCode, StoresMessage, code_for}
 use Rattle.luks_c.specs.Stored.{is_of_this_version, limit_in, location_in}

@@ -6,7 +6,7 @@ use Rattle.luks_aes_batch.specs.declared.round_key.RoundKey.{RoundKey}
 use Rattle.luks_cipher.specs.Expanded.{AreExpanded}
 use Rattle.luks_cipher.specs.Sector.{is_mode_key_length}
 use Rattle.luks_cipher.specs.declared.expanded.ExpandedKeys.{ExpandedKeys}
-use Rattle.luks_verdict.specs.declared.segment.Segment.{Segment}
+use Rattle.luks_format.specs.declared.segment.Segment.{Segment}
 use Rattle.luks_payload.specs.Plain.{payload_bytes, sector_len}
 use Rattle.luks_access.specs.Sectors.{plain_in}
 use Rattle.luks_access.specs.Steps.{IsNextStep}

@@ -4,31 +4,31 @@ use Rattle.std.specs.Prelude.{Bool, List, ◌&&◌, bytes_eq, codes, false, min,
 use Rattle.std.specs.Prelude.{unwrap_or, ◌≢◌, ◌+◌, ◌*◌, ◌/◌, ◌%◌, ◌^◌, Result, Ok}
 use Rattle.std.specs.Prelude.{Err}
 use Rattle.luks_access.specs.declared.options.Options.{Options}
-use Rattle.luks_runs.specs.declared.unlocked.UnlockedVolume.{UnlockedVolume}
+use Rattle.luks_open.specs.declared.unlocked.UnlockedVolume.{UnlockedVolume}
 use Rattle.luks_cipher.specs.Sector.{Cipher}
 use Rattle.luks_cipher.specs.declared.mode.Mode.{Mode}
 use Rattle.luks_cipher.specs.declared.mode.Mode.TheVariants.{XtsPlain64, XtsPlain, CbcEssivSha256, CbcPlain64}
-use Rattle.luks_verdict.specs.Segment.{segment_from}
-use Rattle.luks_verdict.specs.SectorSize.{bytes_of, sector_size_with}
-use Rattle.luks_verdict.specs.declared.derivation.Argon2Limits.{Argon2Limits}
-use Rattle.luks_verdict.specs.declared.sector_size.SectorSize.{SectorSize}
-use Rattle.luks_verdict.specs.declared.segment.Segment.{Segment}
+use Rattle.luks_format.specs.Segment.{segment_from}
+use Rattle.luks_format.specs.SectorSize.{bytes_of, sector_size_with}
+use Rattle.luks_format.specs.declared.derivation.Argon2Limits.{Argon2Limits}
+use Rattle.luks_format.specs.declared.sector_size.SectorSize.{SectorSize}
+use Rattle.luks_format.specs.declared.segment.Segment.{Segment}
 use Rattle.luks_c.specs.declared.volume.LuksrdVolume.{LuksrdVolume}
 use Rattle.luks_report.specs.Texts.{argon2_memory_text, line_of, status_of}
 use Rattle.luks_report.specs.declared.message.Message.{Message}
 use Rattle.luks_report.specs.declared.message.Message.TheVariants.{Done, NotLuks, Cut, Json, SegmentRefused, NoSuchSlot}
 use Rattle.luks_report.specs.declared.message.Message.TheVariants.{SlotDisabled, SlotSkipped, NothingTried, NoKey}
 use Rattle.luks_report.specs.declared.message.Message.TheVariants.{KeyFileLength, CutBeforePayload, Tail, Short}
-use Rattle.luks_runs.specs.declared.location.HeaderLocation.{HeaderLocation}
-use Rattle.luks_runs.specs.declared.location.HeaderLocation.TheVariants.{Attached, Detached}
+use Rattle.luks_open.specs.declared.location.HeaderLocation.{HeaderLocation}
+use Rattle.luks_open.specs.declared.location.HeaderLocation.TheVariants.{Attached, Detached}
 use Rattle.luks_c.specs.declared.message.LuksrdMessage.{LuksrdMessage}
 use Rattle.luks_c.specs.declared.options.LuksrdOptions.{LuksrdOptions}
 use Rattle.luks_access.specs.Opens.{Opens, Refuses}
 use Rattle.luks_access.specs.Sectors.{plain_in}
-use Rattle.luks_header_area.specs.Area.{max_loaded_len}
-use Rattle.luks_key_slots.specs.Fault.{aborts_opening, is_read_failure}
-use Rattle.luks_key_slots.specs.declared.fault.VolumeFault.{VolumeFault}
-use Rattle.luks_key_slots.specs.declared.fault.VolumeFault.TheVariants.{Argon2Memory}
+use Rattle.luks_format.specs.Area.{max_loaded_len}
+use Rattle.luks_open.specs.Fault.{aborts_opening, is_read_failure}
+use Rattle.luks_open.specs.declared.fault.VolumeFault.{VolumeFault}
+use Rattle.luks_open.specs.declared.fault.VolumeFault.TheVariants.{Argon2Memory}
 use Rattle.luks_report.specs.Faults.{message_for_payload, message_for_volume}
 use Rattle.luks_payload.specs.declared.fault.PayloadFault.{PayloadFault}
 use Rattle.luks_payload.specs.declared.fault.PayloadFault.TheVariants.{Tail as FaultTail, Short as FaultShort}

@@ -5,7 +5,7 @@ ghost use Rattle.luks_cipher.specs.Expanded.{AreExpanded};
 ghost use Rattle.luks_cipher.specs.Sector.{is_mode_key_length};
 ghost use Rattle.luks_c.specs.Steps.{IsNoCipher, IsPrepared, no_keys, prepare_code, zero_key};
 ghost use Rattle.luks_c.specs.Stored.{Filled};
-ghost use Rattle.luks_runs.specs.declared.unlocked.UnlockedVolume.{UnlockedVolume};
+ghost use Rattle.luks_open.specs.declared.unlocked.UnlockedVolume.{UnlockedVolume};
 
 use crate::code::{BAD_VOLUME, OK};
 use crate::volume::{LuksrdVolume, key, segment};

@@ -7,7 +7,7 @@ ghost use Rattle.luks_c.specs.Stored.{StoresCode, StoresFault, StoresMessage, co
 
 use crate::message::LuksrdMessage;
 use luks_access::key::KeyCheck;
-use luks_key_slots::fault::VolumeFault;
+use luks_open::fault::VolumeFault;
 use luks_report::message::Message;
 
 /// Success.

@@ -3,13 +3,13 @@
 ghost use Rattle.std.specs.Prelude.{◌≡◌, ◌-◌, ◌≤◌, MatchOption, drop, false, length};
 ghost use Rattle.std.specs.Prelude.{replicate, take, true};
 ghost use Rattle.luks_cipher.specs.Sector.{is_mode_key_length};
-ghost use Rattle.luks_verdict.specs.SectorSize.{sector_size_with};
+ghost use Rattle.luks_format.specs.SectorSize.{sector_size_with};
 ghost use Rattle.luks_c.specs.Stored.{FilledBy, IsCleared, key_in, mode_in, mode_number};
 ghost use Rattle.luks_c.specs.Stored.{segment_in, size_stored_in};
 
 use luks_cipher::Mode;
+use luks_format::sector_size::SectorSize;
 use luks_header::segment::{Segment, SegmentParts};
-use luks_verdict::sector_size::SectorSize;
 
 /// The length of the longest volume key in bytes.
 const CAPACITY: usize = 64;

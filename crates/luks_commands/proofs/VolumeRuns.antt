@@ -6,39 +6,45 @@ use Rattle.std.specs.Result.{result_map_both}
 use Rattle.std.proofs.Math.Nat.{zero-div}
 use Rattle.luks_header.specs.Header.{header_read_len, header_of}
 use Rattle.luks_header.proofs.KnownLemmas.{is_attached}
-use Rattle.luks_verdict.specs.declared.segment.Segment.{Segment}
-use Rattle.luks_key_slots.proofs.CallerLemmas.{key_areas_before_payload}
-use Rattle.luks_key_slots.specs.Fault.{aborts_opening, has_fault, is_untried}
+use Rattle.luks_format.specs.declared.segment.Segment.{Segment}
+use Rattle.luks_open.proofs.CallerLemmas.{key_areas_before_payload}
+use Rattle.luks_open.specs.Fault.{aborts_opening, has_fault, is_untried}
 use Rattle.luks_kdf.specs.Pbkdf2.{capped}
-use Rattle.luks_key_slots.specs.Opening.{OrderModel, order_within, work_of}
-use Rattle.luks_key_slots.specs.declared.fault.OpenFault.{OpenFault}
-use Rattle.luks_key_slots.specs.declared.fault.PassphraseFault.{PassphraseFault}
-use Rattle.luks_key_slots.specs.declared.fault.VolumeFault.{VolumeFault}
-use Rattle.luks_key_slots.specs.declared.fault.VolumeFault.TheVariants.{Passphrase, Slots}
+use Rattle.luks_open.specs.Opening.{OrderModel, order_within, work_of}
+use Rattle.luks_open.specs.declared.fault.OpenFault.{OpenFault}
+use Rattle.luks_open.specs.declared.fault.PassphraseFault.{PassphraseFault}
+use Rattle.luks_open.specs.declared.fault.VolumeFault.{VolumeFault}
+use Rattle.luks_open.specs.declared.fault.VolumeFault.TheVariants.{Passphrase, Slots}
 use Rattle.luks_io.proofs.EffectLemmas.{appended-none, consumed-none}
 use Rattle.luks_io.specs.Devices.{Appended, ConsumedExactly, counted}
 use Rattle.luks_payload.specs.Plain.{sector_len}
 use Rattle.luks_report.specs.Faults.{message_for_volume}
 use Rattle.luks_report.specs.declared.message.Message.{Message}
 use Rattle.luks_report.specs.declared.message.Message.TheVariants.{OutOfMemory, ReadFailed, WriteFailed}
-use Rattle.luks_runs.specs.declared.allowed.AllowedSlots.{AllowedSlots}
+use Rattle.luks_open.specs.declared.allowed.AllowedSlots.{AllowedSlots}
 use Rattle.luks_runs.proofs.RunLemmas.{aborted_unwritten}
-use Rattle.luks_runs.proofs.OpeningLemmas.{area_within, consumed_all, found_within, is_volume, opening_consumed}
-use Rattle.luks_runs.proofs.OpeningLemmas.{opening_found_is, opening_is, opens_unfound}
-use Rattle.luks_runs.proofs.OpeningLemmas.{counts_of_trials, loaded_as, opens_as, opens_unread}
-use Rattle.luks_runs.proofs.VolumeLemmas.{aborted_untried, message_says, volume_with}
-use Rattle.luks_runs.specs.KeyFile.{NoKeyFileRead, max_key_file_len}
-use Rattle.luks_runs.specs.Location.{HeaderReader, reader_for}
+use Rattle.luks_open.proofs.OpeningLemmas.{area_within, consumed_all, found_within, is_volume}
+use Rattle.luks_runs.proofs.OutcomeLemmas.{opening_consumed}
+use Rattle.luks_open.proofs.OpeningLemmas.{opening_found_is, opening_is, opens_unfound}
+use Rattle.luks_open.proofs.OpeningLemmas.{counts_of_trials, loaded_as, opens_as, opens_unread}
+use Rattle.luks_runs.proofs.OutcomeLemmas.{aborted_untried, message_says}
+use Rattle.luks_open.proofs.VolumeLemmas.{volume_with}
+use Rattle.luks_open.specs.KeyFile.{NoKeyFileRead, max_key_file_len}
+use Rattle.luks_open.specs.Location.{HeaderReader, reader_for}
 use Rattle.luks_runs.specs.Run.{Aborted, Completed, ConsumedNothing, IsPrefixLen}
-use Rattle.luks_runs.specs.Volume.{ConsumedUnless, ConsumesMaterial, CountsTrials, FindsNoVolume, FoundIn}
-use Rattle.luks_runs.specs.Volume.{HasSegmentBy, OpeningMatches, OpeningMessage, TriesSlots, VolumeOpening}
-use Rattle.luks_runs.specs.Volume.{described, ends_untried, opened_of}
-use Rattle.luks_runs.specs.Volume.{opening_after, outcome_after, outcome_by, volume_by, volume_opening_by}
-use Rattle.luks_runs.specs.Volume.{unlock_read_len, volume_outcome_by}
-use Rattle.luks_runs.specs.declared.found.FoundVolume.{FoundVolume}
-use Rattle.luks_runs.specs.declared.location.HeaderLocation.{HeaderLocation}
-use Rattle.luks_runs.specs.declared.location.HeaderLocation.TheVariants.{Attached, Detached}
-use Rattle.luks_runs.specs.declared.unlocked.UnlockedVolume.{UnlockedVolume}
+use Rattle.luks_open.specs.Volume.{ConsumedUnless, ConsumesMaterial, CountsTrials, FindsNoVolume, FoundIn}
+use Rattle.luks_open.specs.Volume.{HasSegmentBy, OpeningMatches, TriesSlots, VolumeOpening}
+use Rattle.luks_runs.specs.VolumeOutcome.{OpeningMessage}
+use Rattle.luks_open.specs.Volume.{described, opened_of}
+use Rattle.luks_runs.specs.VolumeOutcome.{ends_untried}
+use Rattle.luks_open.specs.Volume.{opening_after, volume_by, volume_opening_by}
+use Rattle.luks_runs.specs.VolumeOutcome.{outcome_after, outcome_by}
+use Rattle.luks_open.specs.Volume.{unlock_read_len}
+use Rattle.luks_runs.specs.VolumeOutcome.{volume_outcome_by}
+use Rattle.luks_open.specs.declared.found.FoundVolume.{FoundVolume}
+use Rattle.luks_open.specs.declared.location.HeaderLocation.{HeaderLocation}
+use Rattle.luks_open.specs.declared.location.HeaderLocation.TheVariants.{Attached, Detached}
+use Rattle.luks_open.specs.declared.unlocked.UnlockedVolume.{UnlockedVolume}
 use Rattle.luks_commands.specs.Headline.{CountsTried, EndsUntried, PromptCat, PromptForwarding, Trial}
 use Rattle.luks_commands.specs.Unlocking.{EndsLocked, Unlocking, Unlocks}
 

@@ -9,27 +9,29 @@ use Rattle.luks_io.specs.declared.counts.WriteCounts.{WriteCounts}
 use Rattle.luks_io.specs.Devices.{Appended, ConsumedExactly, ConsumedFewer, IfKnown, counted}
 use Rattle.luks_request.specs.Request.{Request, test_passphrase, luks_cat, af_split, secret_of, is_luks, luks_uuid}
 use Rattle.luks_request.specs.Request.{luks_dump, luks_check, af_merge}
-use Rattle.luks_runs.specs.declared.allowed.AllowedSlots.{AllowedSlots}
-use Rattle.luks_runs.specs.Allowed.{pbkdf2_alone}
-use Rattle.luks_runs.specs.Location.{HeaderReader, reader_for, detached_header_of}
-use Rattle.luks_runs.specs.declared.location.HeaderLocation.{HeaderLocation}
-use Rattle.luks_runs.specs.declared.location.HeaderLocation.TheVariants.{Attached, Detached}
+use Rattle.luks_open.specs.declared.allowed.AllowedSlots.{AllowedSlots}
+use Rattle.luks_open.specs.Allowed.{pbkdf2_alone}
+use Rattle.luks_open.specs.Location.{HeaderReader, reader_for, detached_header_of}
+use Rattle.luks_open.specs.declared.location.HeaderLocation.{HeaderLocation}
+use Rattle.luks_open.specs.declared.location.HeaderLocation.TheVariants.{Attached, Detached}
 use Rattle.luks_runs.specs.Payload.{max_payload_end}
 use Rattle.luks_runs.specs.Run.{Promptness, AnyPromptness, is_run_read_failure}
 use Rattle.luks_runs.specs.Run.{is_run_write_failure, DetachedRunMatches, aborts, Outcome}
 use Rattle.luks_runs.specs.Stripe.{max_key_len, PromptSplit, merge_outcome, split_outcome}
-use Rattle.luks_runs.specs.Volume.{HasSegmentBy, slot_outcome, volume_by, OnOpened}
-use Rattle.luks_runs.specs.Volume.{Volume, volume_outcome_by, OpeningMessage, unlock_read_len}
-use Rattle.luks_runs.specs.Volume.{ends_untried}
-use Rattle.luks_runs.specs.Volume.{payload_outcome}
+use Rattle.luks_open.specs.Volume.{HasSegmentBy, volume_by}
+use Rattle.luks_runs.specs.VolumeOutcome.{slot_outcome, OnOpened}
+use Rattle.luks_open.specs.Volume.{Volume, unlock_read_len}
+use Rattle.luks_runs.specs.VolumeOutcome.{volume_outcome_by, OpeningMessage}
+use Rattle.luks_runs.specs.VolumeOutcome.{ends_untried}
+use Rattle.luks_runs.specs.VolumeOutcome.{payload_outcome}
 use Rattle.luks_runs.specs.Honest.{OpensHonest}
-use Rattle.luks_verdict.specs.declared.segment.Segment.{Segment}
+use Rattle.luks_format.specs.declared.segment.Segment.{Segment}
 use Rattle.luks_report.specs.declared.message.Message.{Message}
 use Rattle.luks_report.specs.declared.message.Message.TheVariants.{Done, ReadFailed, WriteFailed}
 use Rattle.luks_header.specs.Header.{header_of, header_read_len}
 use Rattle.luks_kdf.specs.Pbkdf2.{capped}
-use Rattle.luks_key_slots.specs.Opening.{work_of}
-use Rattle.luks_key_slots.specs.declared.opening.Opened.{Opened}
+use Rattle.luks_open.specs.Opening.{work_of}
+use Rattle.luks_open.specs.declared.opening.Opened.{Opened}
 use Rattle.luks_payload.specs.Plain.{sector_len, sector_start}
 use Rattle.luks_runs.specs.HeaderOutcome.{is_luks_outcome, print_outcome_by}
 use Rattle.luks_runs.specs.declared.headers.Printout.TheVariants.{Uuid, Dump, Check}

@@ -2,18 +2,19 @@
 use Rattle.std.specs.Prelude.{◌≡◌, ℕ, max, List, length, Option}
 use Rattle.std.specs.Prelude.{◌≤◌, take, Result, Ok, Err}
 use Rattle.luks_io.specs.Devices.{Appended, ConsumedExactly}
-use Rattle.luks_runs.specs.declared.allowed.AllowedSlots.{AllowedSlots}
-use Rattle.luks_runs.specs.Location.{reader_for}
-use Rattle.luks_runs.specs.declared.location.HeaderLocation.{HeaderLocation}
-use Rattle.luks_runs.specs.declared.location.HeaderLocation.TheVariants.{Attached}
+use Rattle.luks_open.specs.declared.allowed.AllowedSlots.{AllowedSlots}
+use Rattle.luks_open.specs.Location.{reader_for}
+use Rattle.luks_open.specs.declared.location.HeaderLocation.{HeaderLocation}
+use Rattle.luks_open.specs.declared.location.HeaderLocation.TheVariants.{Attached}
 use Rattle.luks_runs.specs.Run.{RunMatches}
-use Rattle.luks_runs.specs.Volume.{ConsumesLoaded, HasSegmentBy, OnOpened, volume_outcome_by}
-use Rattle.luks_verdict.specs.declared.segment.Segment.{Segment}
+use Rattle.luks_runs.specs.VolumeOutcome.{ConsumesLoaded, OnOpened, volume_outcome_by}
+use Rattle.luks_open.specs.Volume.{HasSegmentBy}
+use Rattle.luks_format.specs.declared.segment.Segment.{Segment}
 use Rattle.luks_report.specs.Faults.{message_for_volume}
 use Rattle.luks_report.specs.declared.message.Message.{Message}
 use Rattle.luks_header.specs.Header.{header_read_len}
-use Rattle.luks_key_slots.specs.declared.opening.Opened.{Opened}
-use Rattle.luks_key_slots.specs.declared.fault.VolumeFault.{VolumeFault}
+use Rattle.luks_open.specs.declared.opening.Opened.{Opened}
+use Rattle.luks_open.specs.declared.fault.VolumeFault.{VolumeFault}
 use Rattle.luks_commands.specs.Headline.{CountsOpening, CountsTried, IfInputsKnown, PromptCat, Trial}
 
 -- the volume was not opened, and the message says why: nothing was written, and the run matches the specified outcome,

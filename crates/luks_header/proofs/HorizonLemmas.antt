@@ -3,7 +3,7 @@ use Rattle.std.proofs.Common.{◌≡◌, ℕ, ◌<◌, ◌≤◌, List, [], ◌�
 use Rattle.std.proofs.Common.{length-take-le, lit≤, max, refl, sym, take}
 use Rattle.std.specs.Prelude.{if◌then◌else◌}
 use Rattle.std.proofs.lemmas.List.{take-append-drop}
-use Rattle.luks1_header.specs.Header1.{is_luks1}
+use Rattle.luks_format.specs.Header1.{is_luks1}
 use Rattle.luks2_binary.specs.Choice2.{binary_at, fits, is_valid}
 use Rattle.luks2_binary.specs.Header2.{sizes}
 use Rattle.luks2_binary.specs.ReadLen2.{IsNextEnd, max_of, probe2_len, probe_end, search_len}

@@ -8,20 +8,20 @@ use Rattle.std.specs.Prelude.{nat_lt, if◌then◌else◌, IsTrue, ◌↔◌, ok
 use Rattle.luks_cipher.specs.Sector.{is_mode_key_length}
 use Rattle.luks_cipher.specs.declared.mode.Mode.{Mode}
 use Rattle.luks_kdf.specs.declared.hash.Hash.{Hash}
-use Rattle.luks_verdict.specs.Derivation.{is_allowed}
-use Rattle.luks_verdict.specs.Slot.{material_end}
-use Rattle.luks_verdict.specs.declared.derivation.Derivation.TheVariants.{Pbkdf2}
-use Rattle.luks_verdict.specs.declared.derivation.Limits.{Limits}
-use Rattle.luks_verdict.specs.declared.segment.Segment.{Segment}
-use Rattle.luks_verdict.specs.declared.slot.Slot.{Slot}
-use Rattle.luks_verdict.specs.declared.slot.Verdict.TheVariants.{Usable}
-use Rattle.luks1_header.proofs.ValidationLemmas.{IsReadable-ok, slot_usable_at}
-use Rattle.luks_header_area.specs.Fields.{at}
-use Rattle.luks_header_area.specs.declared.fault.HeaderFault.{HeaderFault}
-use Rattle.luks_header_area.specs.declared.fault.HeaderFault.TheVariants.{Cut, Json, Memory}
-use Rattle.luks1_header.specs.Header1.{header1_len, header1_of, is_luks1}
-use Rattle.luks1_header.specs.Segment1.{is_key_length1}
-use Rattle.luks1_header.specs.Slot1.{payload1_start}
+use Rattle.luks_format.specs.Derivation.{is_allowed}
+use Rattle.luks_format.specs.Slot.{material_end}
+use Rattle.luks_format.specs.declared.derivation.Derivation.TheVariants.{Pbkdf2}
+use Rattle.luks_format.specs.declared.derivation.Limits.{Limits}
+use Rattle.luks_format.specs.declared.segment.Segment.{Segment}
+use Rattle.luks_format.specs.declared.slot.Slot.{Slot}
+use Rattle.luks_format.specs.declared.slot.Verdict.TheVariants.{Usable}
+use Rattle.luks_format.proofs.ValidationLemmas.{IsReadable-ok, slot_usable_at}
+use Rattle.luks_format.specs.Fields.{at}
+use Rattle.luks_format.specs.declared.fault.HeaderFault.{HeaderFault}
+use Rattle.luks_format.specs.declared.fault.HeaderFault.TheVariants.{Cut, Json, Memory}
+use Rattle.luks_format.specs.Header1.{header1_len, header1_of, is_luks1}
+use Rattle.luks_format.specs.Segment1.{is_key_length1}
+use Rattle.luks_format.specs.Slot1.{payload1_start}
 use Rattle.luks2_binary.specs.Choice2.{header2_of}
 use Rattle.luks2_binary.specs.Text2.{json_text_of}
 use Rattle.luks2_binary.specs.declared.header.Header2.{Header2}
@@ -32,7 +32,7 @@ use Rattle.serde_json.specs.Data.{Data}
 use Rattle.luks2_metadata.specs.Segment2.{payload2_start}
 use Rattle.luks2_metadata.proofs.SegmentLemmas.{segment2-ok}
 use Rattle.luks2_metadata.proofs.SlotLemmas.{IsSaltFor, same_slot2, usable2_at}
-use Rattle.luks_verdict.specs.Rule.{exceeds}
+use Rattle.luks_format.specs.Rule.{exceeds}
 use Rattle.luks_header.specs.Header.{bounds2_of, header_of, is_detached, with_text}
 use Rattle.luks_header.specs.Header.{ReadsNoHeader, header_read_len, probe_len}
 use Rattle.luks_header.specs.HeaderSegment.{segment_of}

@@ -6,10 +6,10 @@ use Rattle.std.specs.Prelude.{if◌then◌else◌, not, ok_or, option_map, IsTru
 use Rattle.std.proofs.lemmas.Bool.{le-ltb, lt-ltb}
 use Rattle.std.proofs.lemmas.List.{drop-append-le, drop_all, take-append-drop}
 use Rattle.luks_io.specs.Devices.{ConsumedExactly, counted}
-use Rattle.luks_header_area.specs.Area.{HeaderAreaModel, IsStart, Loads}
-use Rattle.luks_header_area.specs.declared.fault.HeaderFault.{HeaderFault}
-use Rattle.luks_header_area.specs.declared.fault.HeaderFault.TheVariants.{Json, Read, Memory, NotLuks, Cut}
-use Rattle.luks1_header.specs.Header1.{is_luks1}
+use Rattle.luks_format.specs.Area.{HeaderAreaModel, IsStart, Loads}
+use Rattle.luks_format.specs.declared.fault.HeaderFault.{HeaderFault}
+use Rattle.luks_format.specs.declared.fault.HeaderFault.TheVariants.{Json, Read, Memory, NotLuks, Cut}
+use Rattle.luks_format.specs.Header1.{is_luks1}
 use Rattle.luks2_binary.specs.Choice2.{header2_of}
 use Rattle.luks2_binary.specs.declared.header.Header2.{Header2}
 use Rattle.luks2_binary.specs.ReadLen2.{IsNextEnd, probe2_len}

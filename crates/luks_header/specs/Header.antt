@@ -2,8 +2,8 @@
 use Rattle.std.specs.Prelude.{◌≡◌, ◌⊎◌, ℕ, Bool, true, false, List, Option, Result, Ok, Err, length, min}
 use Rattle.std.specs.Prelude.{◌*◌, nat_lt, if◌then◌else◌, ok_or, option_map}
 use Rattle.luks_io.specs.Devices.{ConsumedExactly, ConsumedFewer, ConsumedAtMost, counted}
-use Rattle.luks_header_area.specs.Fields.{at}
-use Rattle.luks1_header.specs.Header1.{header1_len, header1_of, is_luks1}
+use Rattle.luks_format.specs.Fields.{at}
+use Rattle.luks_format.specs.Header1.{header1_len, header1_of, is_luks1}
 use Rattle.luks2_binary.specs.Choice2.{header2_of}
 use Rattle.luks2_binary.specs.ReadLen2.{probe2_len}
 use Rattle.luks2_binary.specs.Text2.{json_text_of}
@@ -12,8 +12,8 @@ use Rattle.luks2_json.specs.Tree.{tree_of}
 use Rattle.luks2_metadata.specs.declared.bounds.Bounds.{Bounds}
 use Rattle.luks_header.specs.declared.header.Header.{Header}
 use Rattle.luks_header.specs.declared.header.Header.TheVariants.{V1, V2}
-use Rattle.luks_header_area.specs.declared.fault.HeaderFault.{HeaderFault}
-use Rattle.luks_header_area.specs.declared.fault.HeaderFault.TheVariants.{Cut, Json, Read, Memory}
+use Rattle.luks_format.specs.declared.fault.HeaderFault.{HeaderFault}
+use Rattle.luks_format.specs.declared.fault.HeaderFault.TheVariants.{Cut, Json, Read, Memory}
 
 -- the header is detached: it is in another file than the payload
 unfoldable pub is_detached : Header → Bool

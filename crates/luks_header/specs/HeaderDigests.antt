@@ -1,10 +1,10 @@
 -- The digests of a header.
 use Rattle.std.specs.Prelude.{ℕ, List, [], Option}
-use Rattle.luks_verdict.specs.declared.digest.KeyDigest.{KeyDigest}
-use Rattle.luks_verdict.specs.Slot.{digest_from}
-use Rattle.luks1_header.specs.Slot1.{digest_parts1_of}
+use Rattle.luks_format.specs.declared.digest.KeyDigest.{KeyDigest}
+use Rattle.luks_format.specs.Slot.{digest_from}
+use Rattle.luks_format.specs.Slot1.{digest_parts1_of}
 use Rattle.luks2_metadata.specs.Digest2.{digest2_for, digests2_of}
-use Rattle.luks2_metadata.specs.declared.digest.Digest.{Digest}
+use Rattle.luks2_metadata.specs.declared.luks2_digest.Digest.{Digest}
 use Rattle.luks_header.specs.declared.header.Header.{Header}
 use Rattle.luks_header.specs.declared.header.Header.TheVariants.{V1, V2}
 

@@ -1,8 +1,8 @@
 -- Where the payload of a volume is, or why it cannot be read.
 use Rattle.std.specs.Prelude.{Result}
-use Rattle.luks_verdict.specs.declared.refusal.SegmentFault.{SegmentFault}
-use Rattle.luks_verdict.specs.declared.segment.Segment.{Segment}
-use Rattle.luks1_header.specs.Segment1.{segment1_of}
+use Rattle.luks_format.specs.declared.refusal.SegmentFault.{SegmentFault}
+use Rattle.luks_format.specs.declared.segment.Segment.{Segment}
+use Rattle.luks_format.specs.Segment1.{segment1_of}
 use Rattle.luks2_metadata.specs.Segment2.{segment2_of}
 use Rattle.luks_header.specs.Header.{bounds2_of}
 use Rattle.luks_header.specs.declared.header.Header.{Header}

@@ -2,10 +2,10 @@ pub mod Header
 pub mod HeaderDigests
 pub mod HeaderSegment
 pub mod SlotVerdicts
-pub use Rattle.luks_header_area.specs.Area
-pub use Rattle.luks_header_area.specs.Fields
-pub use Rattle.luks_verdict.specs.Derivation
-pub use Rattle.luks_verdict.specs.Rule
-pub use Rattle.luks_verdict.specs.SectorSize
-pub use Rattle.luks_verdict.specs.SegmentFault
-pub use Rattle.luks_verdict.specs.SkipReason
+pub use Rattle.luks_format.specs.Area
+pub use Rattle.luks_format.specs.Fields
+pub use Rattle.luks_format.specs.Derivation
+pub use Rattle.luks_format.specs.Rule
+pub use Rattle.luks_format.specs.SectorSize
+pub use Rattle.luks_format.specs.SegmentFault
+pub use Rattle.luks_format.specs.SkipReason

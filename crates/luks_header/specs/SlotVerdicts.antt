@@ -1,13 +1,13 @@
 -- The verdicts on the key slots of a header: whether each can be tried, and if not, why.
 use Rattle.std.specs.Prelude.{ℕ, Bool, true, false, List, Option, Some, option_map}
-use Rattle.luks_verdict.specs.Derivation.{without_argon2}
-use Rattle.luks_verdict.specs.Rule.{max_slots}
-use Rattle.luks_verdict.specs.Table.{ascending}
-use Rattle.luks_verdict.specs.declared.derivation.Limits.{Limits}
-use Rattle.luks_verdict.specs.declared.slot.Slot.{Slot}
-use Rattle.luks_verdict.specs.declared.slot.Verdict.{Verdict}
-use Rattle.luks_verdict.specs.declared.slot.Verdict.TheVariants.{Usable}
-use Rattle.luks1_header.specs.Slot1.{slot1_at, verdict1_at}
+use Rattle.luks_format.specs.Derivation.{without_argon2}
+use Rattle.luks_format.specs.Rule.{max_slots}
+use Rattle.luks_format.specs.Table.{ascending}
+use Rattle.luks_format.specs.declared.derivation.Limits.{Limits}
+use Rattle.luks_format.specs.declared.slot.Slot.{Slot}
+use Rattle.luks_format.specs.declared.slot.Verdict.{Verdict}
+use Rattle.luks_format.specs.declared.slot.Verdict.TheVariants.{Usable}
+use Rattle.luks_format.specs.Slot1.{slot1_at, verdict1_at}
 use Rattle.luks2_json.specs.Numbered.{has_key_out_of_range}
 use Rattle.luks2_metadata.specs.Slot2.{slot2_at, verdict2_at}
 use Rattle.luks_header.specs.Header.{bounds2_of}

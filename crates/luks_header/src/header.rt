@@ -4,19 +4,19 @@ ghost use Rattle.std.specs.Prelude.{◌≡◌, ◌<◌, ◌≤◌, Bool, Some, N
 ghost use Rattle.std.specs.Prelude.{[], length, take, true, false};
 ghost use Rattle.luks_io.specs.Devices.{ConsumedExactly, IfKnown};
 ghost use Rattle.luks_io.specs.Counts.{Reads};
-ghost use Rattle.luks_header_area.specs.Area.{is_read_fault, max_loaded_len};
-ghost use Rattle.luks1_header.specs.Header1.{is_luks1};
+ghost use Rattle.luks_format.specs.Area.{is_read_fault, max_loaded_len};
+ghost use Rattle.luks_format.specs.Header1.{is_luks1};
 ghost use Rattle.luks2_binary.specs.ReadLen2.{IsNextEnd};
 ghost use Rattle.luks2_binary.specs.Search2.{IsSearchOf};
 ghost use Rattle.luks_header.specs.Header.{HasNoHeader, ReadsNoHeader, bounds2_of};
 ghost use Rattle.luks_header.specs.Header.{header_read_len, detached_of, falls_short, header_of};
 ghost use Rattle.luks_header.specs.Header.{probe_len};
 
-use luks_header_area::area::HeaderArea;
-use luks_header_area::fault::HeaderFault;
+use luks_format::area::HeaderArea;
+use luks_format::fault::HeaderFault;
+use luks_format::header::{HEADER1_LEN, is_header1};
+pub use luks_format::header::{Header1, SlotState, StoredSlot};
 use luks_io::source::Source;
-use luks1_header::header::{HEADER1_LEN, is_header1};
-pub use luks1_header::header::{Header1, SlotState, StoredSlot};
 pub use luks2_binary::header::{Header2, HeaderRole, PairFinding};
 use luks2_binary::header_search::{Search, header2, next_end2};
 pub use luks2_json::tree::Metadata;

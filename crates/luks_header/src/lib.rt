@@ -1,17 +1,16 @@
 //! LUKS headers, which describe a volume's cipher, key slots and payload.
 //!
 //! [`read_header`](header::read_header) reads the header at the start of an image,
-//! [`slots`](slot::slots) returns the verdicts on its key slots, [`digest_for`](digest::digest_for)
-//! the digest of a key slot, [`digests`](digest::digests) all digests, and
-//! [`segment`](payload::segment) the location of the payload.
+//! [`slots`](header_slots::slots) returns the verdicts on its key slots, [`digest_for`](header_digests::digest_for)
+//! the digest of a key slot, [`digests`](header_digests::digests) all digests, and
+//! [`segment`](header_segment::segment) the location of the payload.
 //!
 //! The crates below this one have what belongs to one format, and what both formats share.
 #![tactic(auto)]
 
-pub mod digest;
 pub mod header;
-pub mod payload;
-pub mod slot;
+pub mod header_digests;
+pub mod header_segment;
+pub mod header_slots;
 
-pub use luks_header_area::{area, fault, text};
-pub use luks_verdict::{bytes, derivation, refusal, rule, sector_size, segment};
+pub use luks_format::{area, bytes, derivation, fault, refusal, rule, sector_size, segment, text};

@@ -1,8 +1,8 @@
 -- How inputs are opened, from what a system may answer.
 use Rattle.std.specs.Prelude.{◌≡◌, ℕ, List, Bool, true, false, Option, Some, None, Result, Ok, Err, codes}
 use Rattle.std.specs.declared.alloc.AllocError.{AllocError}
-use Rattle.luks_host.specs.declared.opening.OpenedInput.{OpenedInput}
-use Rattle.luks_host.specs.declared.opening.OpenedInput.TheVariants as Opened
+use Rattle.luks_host.specs.declared.open_input.OpenedInput.{OpenedInput}
+use Rattle.luks_host.specs.declared.open_input.OpenedInput.TheVariants as Opened
 use Rattle.luks_host.specs.declared.storage.FileFacts.{FileFacts}
 use Rattle.luks_host.specs.declared.storage.FileKind.{FileKind}
 use Rattle.luks_host.specs.declared.system.InputFault.{InputFault}

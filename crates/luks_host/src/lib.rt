@@ -9,7 +9,7 @@ pub mod file_kind;
 pub mod input;
 pub mod is_output;
 pub mod loop_device;
-pub mod opening;
+pub mod open_input;
 pub mod output;
 pub mod storage;
 pub mod system;

@@ -5,7 +5,7 @@ use Rattle.std.proofs.Common.{length-append, length-drop, max, min, arith}
 use Rattle.std.specs.Prelude.{nat_lt, OnOk, IfErr}
 use Rattle.std.proofs.lemmas.Bool.{le-ltb, lt-ltb}
 use Rattle.std.proofs.lemmas.List.{drop-drop, take-append-drop}
-use Rattle.luks_verdict.specs.declared.segment.Segment.{Segment}
+use Rattle.luks_format.specs.declared.segment.Segment.{Segment}
 use Rattle.luks_cipher.specs.Sector.{Cipher}
 use Rattle.luks_io.specs.Devices.{Appended, ConsumedExactly, IfKnown}
 use Rattle.luks_io.specs.Counts.{Reads, Writes}
@@ -16,8 +16,8 @@ use Rattle.luks_payload.specs.PumpEffects.{PositionedAt, AbortsDiscarding, Abort
 use Rattle.luks_payload.specs.PumpEffects.{is_cut_before_payload, is_pump_write_failure, max_sectors}
 use Rattle.luks_payload.specs.Plain.{ending_of_len, payload_end_of, sector_len}
 use Rattle.luks_payload.specs.Plain.{sector_plaintext, sector_start, unit_number, unit_plain}
-use Rattle.luks_verdict.proofs.RangeLemmas.{segment_whole}
-use Rattle.luks_verdict.proofs.SectorLemmas.{sector_blocks}
+use Rattle.luks_format.proofs.RangeLemmas.{segment_whole}
+use Rattle.luks_format.proofs.SectorLemmas.{sector_blocks}
 use Rattle.luks_payload.specs.PumpEffects.{EndEffect, EndsAt, MayAnswer, PumpModel, SkipEffect, SkipsAgain}
 use Rattle.luks_payload.specs.PumpEffects.{PositionedIn, StepEffect, ConsumesSector}
 use Rattle.luks_payload.specs.PumpEffects.{WritesSectors, hits_eof_at, is_running, consumed_by, state_after_skip}

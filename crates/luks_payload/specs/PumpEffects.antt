@@ -3,7 +3,7 @@ use Rattle.std.specs.Prelude.{◌≡◌, ℕ, ◌+◌, ◌-◌, ◌*◌, ◌/◌
 use Rattle.std.specs.Prelude.{IsTrue, List, drop, length, take, Option, None, Some, Result, Ok, Err, MatchResult}
 use Rattle.luks_cipher.specs.Sector.{Cipher}
 use Rattle.luks_io.specs.Devices.{Appended, ConsumedBetween, ConsumedExactly, ConsumedFewer, IfKnown}
-use Rattle.luks_verdict.specs.declared.segment.Segment.{Segment}
+use Rattle.luks_format.specs.declared.segment.Segment.{Segment}
 use Rattle.luks_payload.specs.Plain.{ending_of, ending_of_len, payload_end_of, sector_len, sector_plaintext}
 use Rattle.luks_payload.specs.Plain.{sector_start, sectors_of, unit_plain}
 use Rattle.luks_payload.specs.declared.fault.PayloadFault.{PayloadFault}

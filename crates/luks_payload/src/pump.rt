@@ -16,9 +16,9 @@ use crate::forwarding::{discard, forward_sector};
 use crate::sector::{ending, max_sectors, unit_number};
 use crate::state::{State, Step};
 use luks_cipher::SectorCipher;
+use luks_format::segment::Segment;
 use luks_io::sink::Sink;
 use luks_io::source::Source;
-use luks_verdict::segment::Segment;
 use std::marker::Model;
 
 /// The capacity for the longest sector.

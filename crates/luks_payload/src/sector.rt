@@ -6,7 +6,7 @@ ghost use Rattle.luks_payload.specs.Plain.{ending_of_len, sector_len, unit_numbe
 
 use crate::fault::PayloadFault;
 use crate::state::Step;
-use luks_verdict::segment::Segment;
+use luks_format::segment::Segment;
 
 /// The largest number of sectors that are forwarded: those of a payload of fixed size, or otherwise
 /// 2^64 - 1.

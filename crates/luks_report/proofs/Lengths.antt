@@ -2,10 +2,10 @@
 use Rattle.std.proofs.Common.{◌≤◌, length, arith}
 use Rattle.luks_header.specs.SegmentFault.{fault_text}
 use Rattle.luks_header.specs.SkipReason.{reason_text}
-use Rattle.luks_verdict.specs.declared.refusal.SkipReason.{SkipReason}
-use Rattle.luks_verdict.specs.declared.refusal.SkipReason.TheVariants.{State}
-use Rattle.luks_verdict.specs.declared.refusal.SegmentFault.{SegmentFault}
-use Rattle.luks_verdict.specs.declared.refusal.SegmentFault.TheVariants.{Requirement}
+use Rattle.luks_format.specs.declared.refusal.SkipReason.{SkipReason}
+use Rattle.luks_format.specs.declared.refusal.SkipReason.TheVariants.{State}
+use Rattle.luks_format.specs.declared.refusal.SegmentFault.{SegmentFault}
+use Rattle.luks_format.specs.declared.refusal.SegmentFault.TheVariants.{Requirement}
 
 pub reason_len : (reason : SkipReason) → length (reason_text reason) ≤ 19
 reason_len State = omega arith

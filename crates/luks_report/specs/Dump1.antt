@@ -3,10 +3,10 @@ use Rattle.std.specs.Prelude.{ℕ, ◌∷◌, ◌++◌, [], List, codes, suc}
 use Rattle.std.specs.Fmt.{decimal}
 use Rattle.std.specs.Int.{to_be_bytes, w32}
 use Rattle.hex.specs.Hex.{encode_lower}
-use Rattle.luks1_header.specs.declared.header.Header1.{Header1}
-use Rattle.luks1_header.specs.declared.header.StoredSlot.{StoredSlot}
-use Rattle.luks1_header.specs.declared.header.SlotState.{SlotState}
-use Rattle.luks1_header.specs.declared.header.SlotState.TheVariants.{Enabled, Disabled, Damaged}
+use Rattle.luks_format.specs.declared.header.Header1.{Header1}
+use Rattle.luks_format.specs.declared.header.StoredSlot.{StoredSlot}
+use Rattle.luks_format.specs.declared.header.SlotState.{SlotState}
+use Rattle.luks_format.specs.declared.header.SlotState.TheVariants.{Enabled, Disabled, Damaged}
 use Rattle.luks_report.specs.DumpLine.{escaped, field}
 
 -- the text of a key slot that is in use: its iterations, its salt in hexadecimal digits, its area's offset in sectors

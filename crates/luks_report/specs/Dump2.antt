@@ -4,24 +4,24 @@ use Rattle.std.specs.Fmt.{decimal}
 use Rattle.luks_cipher.specs.Sector.{mode_name}
 use Rattle.luks_kdf.specs.Hash.{hash_name}
 use Rattle.luks_kdf.specs.declared.hash.Hash.{Hash}
-use Rattle.luks_verdict.specs.SectorSize.{bytes_of}
-use Rattle.luks_verdict.specs.SegmentFault.{fault_text}
-use Rattle.luks_verdict.specs.SkipReason.{reason_text}
-use Rattle.luks_verdict.specs.declared.refusal.SegmentFault.{SegmentFault}
-use Rattle.luks_verdict.specs.declared.segment.Segment.{Segment}
+use Rattle.luks_format.specs.SectorSize.{bytes_of}
+use Rattle.luks_format.specs.SegmentFault.{fault_text}
+use Rattle.luks_format.specs.SkipReason.{reason_text}
+use Rattle.luks_format.specs.declared.refusal.SegmentFault.{SegmentFault}
+use Rattle.luks_format.specs.declared.segment.Segment.{Segment}
 use Rattle.luks_argon2.specs.declared.variant.Variant.{Variant}
 use Rattle.luks_argon2.specs.declared.variant.Variant.TheVariants.{Argon2i, Argon2id}
-use Rattle.luks_verdict.specs.declared.derivation.Derivation.{Derivation}
-use Rattle.luks_verdict.specs.declared.derivation.Derivation.TheVariants.{Pbkdf2, Argon2}
-use Rattle.luks_verdict.specs.declared.slot.SlotParts.{SlotParts}
-use Rattle.luks_verdict.specs.declared.slot.Verdict.{Verdict}
-use Rattle.luks_verdict.specs.declared.slot.Verdict.TheVariants.{Usable, Disabled, Skipped}
+use Rattle.luks_format.specs.declared.derivation.Derivation.{Derivation}
+use Rattle.luks_format.specs.declared.derivation.Derivation.TheVariants.{Pbkdf2, Argon2}
+use Rattle.luks_format.specs.declared.slot.SlotParts.{SlotParts}
+use Rattle.luks_format.specs.declared.slot.Verdict.{Verdict}
+use Rattle.luks_format.specs.declared.slot.Verdict.TheVariants.{Usable, Disabled, Skipped}
 use Rattle.luks2_binary.specs.declared.header.Header2.{Header2}
 use Rattle.luks2_binary.specs.declared.header.HeaderRole.{HeaderRole}
 use Rattle.luks2_binary.specs.declared.header.HeaderRole.TheVariants.{Primary, Secondary}
 use Rattle.luks2_metadata.specs.Digest2.{digests2_of}
 use Rattle.luks2_metadata.specs.Segment2.{segment2_of}
-use Rattle.luks2_metadata.specs.declared.digest.Digest.{Digest}
+use Rattle.luks2_metadata.specs.declared.luks2_digest.Digest.{Digest}
 use Rattle.luks_header.specs.Header.{bounds2_of}
 use Rattle.luks_header.specs.SlotVerdicts.{verdicts_of}
 use Rattle.luks_header.specs.declared.header.Header.TheVariants.{V2}

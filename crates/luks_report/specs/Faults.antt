@@ -1,17 +1,17 @@
 -- The message for each fault of the layers below.
 use Rattle.std.specs.Prelude.{Result, Ok, Err}
-use Rattle.luks_header_area.specs.declared.fault.HeaderFault.{HeaderFault}
-use Rattle.luks_header_area.specs.declared.fault.HeaderFault.TheVariants.{NotLuks, Cut, Json, Read as HeaderRead}
-use Rattle.luks_header_area.specs.declared.fault.HeaderFault.TheVariants.{Memory as HeaderMemory}
-use Rattle.luks_key_slots.specs.declared.fault.OpenFault.{OpenFault}
-use Rattle.luks_key_slots.specs.declared.fault.OpenFault.TheVariants.{NoSuchSlot, Disabled, NamedSkipped, NothingTried}
-use Rattle.luks_key_slots.specs.declared.fault.OpenFault.TheVariants.{NoKey, Memory}
-use Rattle.luks_key_slots.specs.declared.fault.PassphraseFault.{PassphraseFault}
-use Rattle.luks_key_slots.specs.declared.fault.PassphraseFault.TheVariants.{TooLong, Read as PassphraseRead}
-use Rattle.luks_key_slots.specs.declared.fault.PassphraseFault.TheVariants.{Memory as PassphraseMemory}
-use Rattle.luks_key_slots.specs.declared.fault.VolumeFault.{VolumeFault}
-use Rattle.luks_key_slots.specs.declared.fault.VolumeFault.TheVariants.{Header, Segment, Passphrase, KeyAreaCut, Slots}
-use Rattle.luks_key_slots.specs.declared.fault.VolumeFault.TheVariants.{Argon2Memory}
+use Rattle.luks_format.specs.declared.fault.HeaderFault.{HeaderFault}
+use Rattle.luks_format.specs.declared.fault.HeaderFault.TheVariants.{NotLuks, Cut, Json, Read as HeaderRead}
+use Rattle.luks_format.specs.declared.fault.HeaderFault.TheVariants.{Memory as HeaderMemory}
+use Rattle.luks_open.specs.declared.fault.OpenFault.{OpenFault}
+use Rattle.luks_open.specs.declared.fault.OpenFault.TheVariants.{NoSuchSlot, Disabled, NamedSkipped, NothingTried}
+use Rattle.luks_open.specs.declared.fault.OpenFault.TheVariants.{NoKey, Memory}
+use Rattle.luks_open.specs.declared.fault.PassphraseFault.{PassphraseFault}
+use Rattle.luks_open.specs.declared.fault.PassphraseFault.TheVariants.{TooLong, Read as PassphraseRead}
+use Rattle.luks_open.specs.declared.fault.PassphraseFault.TheVariants.{Memory as PassphraseMemory}
+use Rattle.luks_open.specs.declared.fault.VolumeFault.{VolumeFault}
+use Rattle.luks_open.specs.declared.fault.VolumeFault.TheVariants.{Header, Segment, Passphrase, KeyAreaCut, Slots}
+use Rattle.luks_open.specs.declared.fault.VolumeFault.TheVariants.{Argon2Memory}
 use Rattle.luks_payload.specs.declared.fault.PayloadFault.{PayloadFault}
 use Rattle.luks_payload.specs.declared.fault.PayloadFault.TheVariants.{CutBeforePayload, Tail, Short, Read, Write}
 use Rattle.luks_payload.specs.declared.state.Step.{Step}

@@ -8,14 +8,14 @@ use Rattle.luks_header.specs.SkipReason.{reason_text}
 use Rattle.luks_header.specs.SlotVerdicts.{has_name_out_of_range, verdicts_of}
 use Rattle.luks_header.specs.declared.header.Header.{Header}
 use Rattle.luks_header.specs.declared.header.Header.TheVariants.{V1, V2}
-use Rattle.luks_verdict.specs.Slot.{material_end}
-use Rattle.luks_verdict.specs.declared.refusal.SegmentFault.{SegmentFault}
-use Rattle.luks_verdict.specs.declared.refusal.SkipReason.{SkipReason}
-use Rattle.luks_verdict.specs.declared.refusal.SkipReason.TheVariants.{Argon2i, Argon2id}
-use Rattle.luks_verdict.specs.declared.segment.Segment.{Segment}
-use Rattle.luks_verdict.specs.declared.slot.Slot.{Slot}
-use Rattle.luks_verdict.specs.declared.slot.Verdict.{Verdict}
-use Rattle.luks_verdict.specs.declared.slot.Verdict.TheVariants.{Usable, Skipped}
+use Rattle.luks_format.specs.Slot.{material_end}
+use Rattle.luks_format.specs.declared.refusal.SegmentFault.{SegmentFault}
+use Rattle.luks_format.specs.declared.refusal.SkipReason.{SkipReason}
+use Rattle.luks_format.specs.declared.refusal.SkipReason.TheVariants.{Argon2i, Argon2id}
+use Rattle.luks_format.specs.declared.segment.Segment.{Segment}
+use Rattle.luks_format.specs.declared.slot.Slot.{Slot}
+use Rattle.luks_format.specs.declared.slot.Verdict.{Verdict}
+use Rattle.luks_format.specs.declared.slot.Verdict.TheVariants.{Usable, Skipped}
 use Rattle.luks2_binary.specs.declared.header.PairFinding.{PairFinding}
 use Rattle.luks2_binary.specs.declared.header.PairFinding.TheVariants.{PrimaryNotValid, SecondaryNotValid}
 use Rattle.luks2_binary.specs.declared.header.PairFinding.TheVariants.{SequencesDiffer}

@@ -7,7 +7,7 @@ pub use Rattle.luks_report.specs.Findings.{findings_of}
 use Rattle.luks_header.specs.SegmentFault.{fault_text}
 use Rattle.luks_header.specs.SkipReason.{reason_text}
 use Rattle.luks_header.specs.declared.header.Header.{Header}
-use Rattle.luks_verdict.specs.declared.refusal.SkipReason.{SkipReason}
+use Rattle.luks_format.specs.declared.refusal.SkipReason.{SkipReason}
 use Rattle.luks_report.specs.declared.message.Message.{Message}
 use Rattle.luks_report.specs.declared.message.Message.TheVariants.{Done, No, Usage, NotLuks, Cut, Json, KeyLength, Tail}
 use Rattle.luks_report.specs.declared.message.Message.TheVariants.{FewRandomBytes, FewStripes, OutOfMemory, ReadFailed}

@@ -7,7 +7,7 @@ use luks_header::fault::HeaderFault;
 use luks_header::refusal::SegmentFault;
 use luks_io::sink::WriteFault;
 use luks_io::source::ReadFault;
-use luks_key_slots::fault::{OpenFault, PassphraseFault, VolumeFault};
+use luks_open::fault::{OpenFault, PassphraseFault, VolumeFault};
 use luks_payload::fault::PayloadFault;
 use std::alloc::AllocError;
 

@@ -8,9 +8,9 @@ ghost use Rattle.luks_report.specs.Findings.{name_findings, overlap, overlaps, p
 ghost use Rattle.luks_report.specs.Findings.{pair_text, segment_findings, slot_findings};
 
 use luks_header::header::{Header, PairFinding};
-use luks_header::payload::segment;
+use luks_header::header_segment::segment;
+use luks_header::header_slots::{Slot, Verdict, has_name_out_of_range, slots};
 use luks_header::refusal::{SegmentFault, SkipReason};
-use luks_header::slot::{Slot, Verdict, has_name_out_of_range, slots};
 use std::alloc::{AllocError, Global};
 
 /// What is wrong with a header, or cannot be read by luksrd.

@@ -4,7 +4,7 @@ ghost use Rattle.std.specs.Prelude.{◌≡◌};
 ghost use Rattle.luks_report.specs.Texts.{status_of};
 
 use luks_header::refusal::{SegmentFault, SkipReason};
-use luks_key_slots::skipped::SkippedSlots;
+use luks_open::skipped::SkippedSlots;
 
 /// How a run ended. It prints as its line, newline included, or as nothing.
 #[derive(Clone, Copy, Debug, PartialEq, Eq)]

@@ -12,7 +12,7 @@ use crate::message_line::Line;
 use crate::usage::usage;
 use luks_header::refusal::SkipReason;
 use luks_io::sink::{Sink, WriteFault, put_all};
-use luks_key_slots::skipped::SkippedSlots;
+use luks_open::skipped::SkippedSlots;
 
 impl Message {
     /// Writes the line of the message, if it has one, newline included.

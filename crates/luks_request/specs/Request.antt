@@ -7,7 +7,7 @@ use Rattle.luks_request.specs.declared.command.Command.{Command}
 use Rattle.luks_request.specs.declared.command.Command.TheVariants.{AfMerge, AfSplit, IsLuks, LuksCat}
 use Rattle.luks_request.specs.declared.command.Command.TheVariants.{LuksCheck, LuksDump, LuksUuid, TestPassphrase}
 use Rattle.luks_request.specs.declared.command.HeaderArgs.{HeaderArgs}
-use Rattle.luks_request.specs.declared.command.SlotChoice.{SlotChoice}
+use Rattle.luks_open.specs.declared.allowed.SlotChoice.{SlotChoice}
 use Rattle.luks_request.specs.declared.command.VolumeArgs.{VolumeArgs}
 use Rattle.luks_request.specs.declared.command.SplitArgs.{SplitArgs}
 use Rattle.luks_request.specs.declared.command.MergeArgs.{MergeArgs}

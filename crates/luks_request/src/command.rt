@@ -7,6 +7,7 @@ ghost use Rattle.luks_request.specs.Request.{reuses_stdin, request_of, secret_of
 
 use crate::number::{KeyBytes, StripeCount};
 use luks_kdf::Hash;
+pub use luks_open::allowed::SlotChoice;
 
 /// A request to luksrd. The texts are those of the arguments; an input named `-` is standard input.
 #[derive(Clone, Copy, PartialEq, Eq, Debug)]
@@ -36,15 +37,6 @@ pub struct HeaderArgs<'a> {
     pub image: &'a str,
     /// The name of the file with the header, if that is detached.
     pub header: Option<&'a str>,
-}
-
-/// The key slots of a volume that may be tried.
-#[derive(Clone, Copy, PartialEq, Eq, Debug)]
-pub struct SlotChoice {
-    /// The only key slot to try. If none is named, all that can be tried are tried.
-    pub named: Option<u8>,
-    /// The most iterations that a key slot or a digest may have.
-    pub max_iterations: Option<u32>,
 }
 
 /// A volume to be opened.

@@ -25,23 +25,23 @@ use Rattle.luks_cipher.proofs.UnitsUndone.{cbc_decrypted-cbc_encrypted, le_state
 use Rattle.luks_cipher.proofs.UnitsUndone.{joined_same, joined_units}
 use Rattle.luks_cipher.specs.Xts.{joined}
 use Rattle.luks_cipher.proofs.ModeLemmas.{key_length_of_mode}
-use Rattle.luks_header_area.specs.Fields.{at}
-use Rattle.luks_verdict.specs.declared.segment.Segment.{Segment}
-use Rattle.luks_verdict.proofs.SectorLemmas.{sector_blocks}
-use Rattle.luks_verdict.specs.declared.digest.KeyDigest.{KeyDigest}
-use Rattle.luks_verdict.specs.declared.slot.Slot.{Slot}
+use Rattle.luks_format.specs.Fields.{at}
+use Rattle.luks_format.specs.declared.segment.Segment.{Segment}
+use Rattle.luks_format.proofs.SectorLemmas.{sector_blocks}
+use Rattle.luks_format.specs.declared.digest.KeyDigest.{KeyDigest}
+use Rattle.luks_format.specs.declared.slot.Slot.{Slot}
 use Rattle.luks_header.specs.HeaderSegment.{segment_of}
 use Rattle.luks_header.specs.declared.header.Header.{Header}
-use Rattle.luks_verdict.specs.Derivation.{without_argon2}
-use Rattle.luks_verdict.specs.declared.derivation.Limits.{Limits}
+use Rattle.luks_format.specs.Derivation.{without_argon2}
+use Rattle.luks_format.specs.declared.derivation.Limits.{Limits}
 use Rattle.luks_header.proofs.KnownLemmas.{is_attached, known_usable, same_slot}
-use Rattle.luks_key_slots.specs.Candidate.{decrypted_material, material_sector, recovered, candidate_of, matches_digest}
-use Rattle.luks_key_slots.specs.Opening.{first_opening, slot_key, opening_of}
-use Rattle.luks_key_slots.specs.declared.entry.Entry.{Entry}
-use Rattle.luks_key_slots.specs.Opening.{key_material_end, order_within}
-use Rattle.luks_key_slots.specs.declared.fault.OpenFault.TheVariants.{NoKey}
-use Rattle.luks_key_slots.specs.declared.opening.Opened.{Opened}
-use Rattle.luks_key_slots.proofs.CallerLemmas.{All-order, IsOf, key_areas_before_payload, opened_or}
+use Rattle.luks_open.specs.Candidate.{decrypted_material, material_sector, recovered, candidate_of, matches_digest}
+use Rattle.luks_open.specs.Opening.{first_opening, slot_key, opening_of}
+use Rattle.luks_open.specs.declared.entry.Entry.{Entry}
+use Rattle.luks_open.specs.Opening.{key_material_end, order_within}
+use Rattle.luks_open.specs.declared.fault.OpenFault.TheVariants.{NoKey}
+use Rattle.luks_open.specs.declared.opening.Opened.{Opened}
+use Rattle.luks_open.proofs.CallerLemmas.{All-order, IsOf, key_areas_before_payload, opened_or}
 use Rattle.luks_payload.proofs.SectorLemmas.{one_more_fits}
 use Rattle.luks_payload.specs.Plain.{ending_of, ending_of_len, plain_of, sector_len, sector_plaintext, unit_number}
 use Rattle.luks_payload.specs.Plain.{unit_plain, payload_bytes}
@@ -50,17 +50,18 @@ use Rattle.luks_seal.proofs.MaterialLemmas.{derived_bytes, hash_bytes}
 use Rattle.luks_seal.specs.Sealed.{EndsWith, GivesKey, IsDigestOf, IsStoredEncrypted, Sealed, SealsKey, SealsPlain}
 use Rattle.luks_report.specs.Faults.{message_at_end}
 use Rattle.luks_report.specs.declared.message.Message.TheVariants.{Done}
-use Rattle.luks_runs.specs.declared.allowed.AllowedSlots.{AllowedSlots}
+use Rattle.luks_open.specs.declared.allowed.AllowedSlots.{AllowedSlots}
 use Rattle.luks_runs.specs.Run.{Outcome}
-use Rattle.luks_runs.specs.declared.location.HeaderLocation.TheVariants.{Attached}
-use Rattle.luks_runs.specs.KeyFile.{max_key_file_len}
+use Rattle.luks_open.specs.declared.location.HeaderLocation.TheVariants.{Attached}
+use Rattle.luks_open.specs.KeyFile.{max_key_file_len}
 use Rattle.luks_runs.specs.Honest.{GivesNoOther, OpensHonest}
-use Rattle.luks_runs.specs.Volume.{Volume, unlock_read_len, outcome_after, outcome_by, payload_outcome, volume_outcome}
-use Rattle.luks_runs.specs.Volume.{volume_outcome_by}
+use Rattle.luks_open.specs.Volume.{Volume, unlock_read_len}
+use Rattle.luks_runs.specs.VolumeOutcome.{outcome_after, outcome_by, payload_outcome, volume_outcome}
+use Rattle.luks_runs.specs.VolumeOutcome.{volume_outcome_by}
 use Rattle.std.specs.Result.{result_map_both}
-use Rattle.luks_key_slots.specs.declared.fault.VolumeFault.TheVariants.{Slots}
-use Rattle.luks_runs.proofs.OpeningLemmas.{found_whole, opening_is}
-use Rattle.luks_runs.proofs.VolumeLemmas.{volume_is}
+use Rattle.luks_open.specs.declared.fault.VolumeFault.TheVariants.{Slots}
+use Rattle.luks_open.proofs.OpeningLemmas.{found_whole, opening_is}
+use Rattle.luks_open.proofs.VolumeLemmas.{volume_is}
 
 -- ---- decryption of a sector undoes its encryption, in every mode
 

@@ -1,7 +1,5 @@
 pub mod HonestVolumes
-pub mod OpeningLemmas
+pub mod OutcomeLemmas
 pub mod PayloadLemmas
-pub mod PrefixLemmas
 pub mod RunLemmas
 pub mod StripeLemmas
-pub mod VolumeLemmas

@@ -10,8 +10,8 @@ use Rattle.luks_cipher.proofs.ModeLemmas.{length-sector_decrypted}
 use Rattle.luks_cipher.proofs.UnitLemmas.{joined_more}
 use Rattle.luks_cipher.specs.Sector.{Cipher}
 use Rattle.luks_cipher.specs.Xts.{joined}
-use Rattle.luks_verdict.specs.declared.segment.Segment.{Segment}
-use Rattle.luks_verdict.proofs.SectorLemmas.{sector_blocks}
+use Rattle.luks_format.specs.declared.segment.Segment.{Segment}
+use Rattle.luks_format.proofs.SectorLemmas.{sector_blocks}
 use Rattle.luks_io.proofs.EffectLemmas.{appended-more, appended-none, no_reads}
 use Rattle.luks_io.specs.Counts.{Reads}
 use Rattle.luks_io.specs.Devices.{Appended, ConsumedExactly}

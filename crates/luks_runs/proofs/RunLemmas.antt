@@ -8,20 +8,20 @@ use Rattle.luks_runs.specs.Run.{Prints, Aborted, AnyPromptness, ConsumedNothing,
 use Rattle.luks_runs.specs.Run.{RunMatches}
 use Rattle.luks_runs.specs.Run.{Outcome, no_output}
 use Rattle.std.specs.Prelude.{◌==◌, if◌then◌else◌}
-use Rattle.luks_header.specs.Header.{ReadsNoHeader, header_read_len, header_of}
-use Rattle.luks_header.proofs.KnownLemmas.{memory_below, probe_is}
+use Rattle.luks_header.specs.Header.{ReadsNoHeader, header_read_len}
+use Rattle.luks_header.proofs.KnownLemmas.{memory_below}
 use Rattle.luks_header.specs.declared.header.Header.{Header}
-use Rattle.luks_header_area.specs.declared.fault.HeaderFault.{HeaderFault}
-use Rattle.luks_header_area.specs.declared.fault.HeaderFault.TheVariants.{Read, Memory}
+use Rattle.luks_format.specs.declared.fault.HeaderFault.{HeaderFault}
+use Rattle.luks_format.specs.declared.fault.HeaderFault.TheVariants.{Read, Memory}
 use Rattle.luks_runs.specs.HeaderOutcome.{message_for_is_luks, is_luks_outcome, print_outcome_by, printout_text}
 use Rattle.luks_runs.specs.HeaderOutcome.{printout_message}
 use Rattle.luks_report.specs.Faults.{message_for_header}
-use Rattle.luks_runs.specs.Location.{reader_for}
-use Rattle.luks_runs.specs.declared.location.HeaderLocation.{HeaderLocation}
+use Rattle.luks_open.specs.Location.{reader_for}
+use Rattle.luks_open.specs.declared.location.HeaderLocation.{HeaderLocation}
 use Rattle.luks_runs.specs.declared.headers.Printout.{Printout}
 use Rattle.luks_runs.specs.declared.headers.Printout.TheVariants.{Uuid, Dump, Check}
 use Rattle.luks_report.specs.Texts.{findings_of, message_for_check}
-use Rattle.luks_runs.specs.declared.location.HeaderLocation.TheVariants.{Attached, Detached}
+use Rattle.luks_open.proofs.VolumeLemmas.{reading_fault}
 
 -- a source over memory, whose count of failures stays 0, has no failed read to report
 pub never_failed : (failed : Bool) → 0 ≡ counted failed 0 → failed ≡ false
@@ -75,17 +75,6 @@ runs_printed o ConsumedInput ConsumedSecret w w' WriteFailed input none secret p
 runs_printed o ConsumedInput ConsumedSecret w w' ReadFailed input none secret lost = absurd lost
 runs_printed o ConsumedInput ConsumedSecret w w' _ input none secret all =
     record { as_specified = all.0; input = input; payload = none; secret = secret; output = all.1 }
-
--- ---- how many bytes are consumed to read a header, and how the commands on headers end
-
-pub header_read_len_within : (image : List ℕ) → header_read_len image ≤ length image
-header_read_len_within image = omega (arith, (probe_is image).0)
-
--- if no attached header can be read, no detached one can either
-pub reading_fault : (location : HeaderLocation) (image : List ℕ) (fault : HeaderFault) → header_of image ≡ Err fault
-    → reader_for location image ≡ Err fault
-reading_fault Attached image fault none = none
-reading_fault Detached image fault none = rw none refl
 
 -- what holds for `Done`, and in a check also for `Findings`, holds for the message after a text was printed
 pub by_printout : (P : Printout → Message → Type 0) → P Uuid Done → P Dump Done → P Check Done → P Check Findings

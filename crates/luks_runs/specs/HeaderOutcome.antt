@@ -2,15 +2,15 @@
 use Rattle.std.specs.Prelude.{ℕ, List, [], Result, Ok, Err}
 use Rattle.luks_header.specs.Header.{header_read_len, header_of}
 use Rattle.luks_header.specs.declared.header.Header.{Header}
-use Rattle.luks_header_area.specs.declared.fault.HeaderFault.{HeaderFault}
-use Rattle.luks_header_area.specs.declared.fault.HeaderFault.TheVariants.{NotLuks}
+use Rattle.luks_format.specs.declared.fault.HeaderFault.{HeaderFault}
+use Rattle.luks_format.specs.declared.fault.HeaderFault.TheVariants.{NotLuks}
 use Rattle.luks_report.specs.Texts.{check_of, message_for_check}
 use Rattle.luks_report.specs.Dump.{dump_of, uuid_of}
 use Rattle.luks_report.specs.Faults.{message_for_header}
 use Rattle.luks_report.specs.declared.message.Message.{Message}
 use Rattle.luks_report.specs.declared.message.Message.TheVariants.{Done, No}
 use Rattle.luks_runs.specs.Run.{Outcome, no_output}
-use Rattle.luks_runs.specs.Location.{HeaderReader}
+use Rattle.luks_open.specs.Location.{HeaderReader}
 use Rattle.luks_runs.specs.declared.headers.Printout.{Printout}
 use Rattle.luks_runs.specs.declared.headers.Printout.TheVariants.{Uuid, Dump, Check}
 

@@ -1,10 +1,10 @@
 -- Honestly sealed volumes, and the passphrases that open them.
 use Rattle.std.specs.Prelude.{◌≡◌, ℕ, ◌≤◌, All, Contains, List, ◌∷◌, ◌++◌, length, Some, Ok}
-use Rattle.luks_key_slots.specs.Opening.{slot_key, OrderModel, order_within}
-use Rattle.luks_key_slots.specs.declared.entry.Entry.{Entry}
+use Rattle.luks_open.specs.Opening.{slot_key, OrderModel, order_within}
+use Rattle.luks_open.specs.declared.entry.Entry.{Entry}
 use Rattle.luks_seal.specs.Sealed.{Sealed}
-use Rattle.luks_runs.specs.declared.allowed.AllowedSlots.{AllowedSlots}
-use Rattle.luks_runs.specs.KeyFile.{max_key_file_len}
+use Rattle.luks_open.specs.declared.allowed.AllowedSlots.{AllowedSlots}
+use Rattle.luks_open.specs.KeyFile.{max_key_file_len}
 
 -- if the key slot opens under this passphrase, it gives this key
 abbrev pub GivesNoOther : List ℕ → List ℕ → List ℕ → Entry → Type 0

@@ -1,10 +1,7 @@
-pub mod Allowed
 pub mod HeaderOutcome
 pub mod Honest
-pub mod KeyFile
-pub mod Location
 pub mod Payload
 pub mod Run
 pub mod RunMessages
 pub mod Stripe
-pub mod Volume
+pub mod VolumeOutcome

@@ -6,7 +6,7 @@ use Rattle.luks_cipher.specs.Sector.{Cipher}
 use Rattle.luks_io.specs.Counts.{allowed_to}
 use Rattle.luks_io.specs.Devices.{Appended, ConsumedExactly, max_count}
 use Rattle.luks_io.specs.declared.counts.ReadCounts.{ReadCounts}
-use Rattle.luks_verdict.specs.declared.segment.Segment.{Segment}
+use Rattle.luks_format.specs.declared.segment.Segment.{Segment}
 use Rattle.luks_payload.specs.Plain.{ending_of, payload_end_of, plain_of, sector_len, sector_start}
 use Rattle.luks_payload.specs.Plain.{sectors_of}
 use Rattle.luks_report.specs.Faults.{message_at_end}

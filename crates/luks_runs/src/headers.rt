@@ -9,13 +9,13 @@ ghost use Rattle.luks_runs.specs.Run.{Prints};
 ghost use Rattle.luks_runs.specs.Run.{ConsumedNothing, RunMatches, AnyPromptness, result_message};
 ghost use Rattle.luks_runs.specs.Run.{is_run_read_failure, is_run_write_failure};
 ghost use Rattle.luks_runs.specs.RunMessages.{IsLuksMessage, PrintoutMessage};
-ghost use Rattle.luks_runs.specs.Location.{reader_for};
+ghost use Rattle.luks_open.specs.Location.{reader_for};
 
-use crate::location::{HeaderLocation, read_header_at};
 use luks_header::fault::HeaderFault;
 use luks_header::header::{Header, read_header};
 use luks_io::sink::{Sink, put_all};
 use luks_io::source::Source;
+use luks_open::location::{HeaderLocation, read_header_at};
 use luks_report::check::check_text;
 use luks_report::dump::{dump_text, uuid_text};
 use luks_report::message::Message;

@@ -2,12 +2,6 @@
 //! volume by a passphrase, and forwarding the payload.
 #![tactic(auto)]
 
-pub mod allowed;
-pub mod found;
 pub mod headers;
-pub mod key_file;
-pub mod location;
-pub mod payload;
 pub mod stripes;
-pub mod trying;
-pub mod unlocked;
+pub mod write_payload;

@@ -4,7 +4,7 @@ use Rattle.std.proofs.Common.{◌≡◌, ◌∙◌, ℕ, ◌+◌, ◌-◌, ◌�
 use Rattle.std.proofs.Common.{arith, length-append, length-drop, zero, suc, [], ◌∷◌, get_or, take_at}
 use Rattle.std.proofs.lemmas.List.{drop-append-le, drop-drop, drop-take, drop_at, length-replicate, length-take-le}
 use Rattle.std.proofs.lemmas.List.{take-append-le, take-take, take_all}
-use Rattle.luks_header_area.specs.Fields.{at}
+use Rattle.luks_format.specs.Fields.{at}
 use Rattle.luks_seal.specs.Pieces.{padded}
 
 -- the bytes are in the image at this offset

@@ -7,7 +7,7 @@ use Rattle.std.proofs.lemmas.Bool.{eq-eqb, ne_eqb, or_right}
 use Rattle.std.proofs.lemmas.List.{drop_at, take_at}
 use Rattle.std.proofs.lemmas.Nat.{from_be_bytes-to_be_bytes_8}
 use Rattle.std.proofs.lemmas.Slice.Eq.{bytes_eq-Decides}
-use Rattle.luks_header_area.specs.Fields.{at, be64, text_of}
+use Rattle.luks_format.specs.Fields.{at, be64, text_of}
 use Rattle.luks_kdf.specs.Hash.{hash_named, hash_of}
 use Rattle.luks_kdf.specs.declared.hash.Hash.TheVariants.{Sha256}
 use Rattle.luks_kdf.proofs.Pbkdf2Lemmas.{length-hash_of}

@@ -4,14 +4,14 @@ use Rattle.std.proofs.Common.{refl, sym, arith, append_assoc, append-nil, length
 use Rattle.std.proofs.Common.{false, ap, slice_get, mul-le-mul_right}
 use Rattle.std.specs.Int.{to_be_bytes, w32}
 use Rattle.std.specs.Option.{option_map_or}
-use Rattle.luks_header_area.specs.Fields.{at, be32, text_of}
+use Rattle.luks_format.specs.Fields.{at, be32, text_of}
 use Rattle.luks_cipher.specs.Sector.{mode_name}
 use Rattle.luks_cipher.proofs.ModeLemmas.{max_mode_key}
 use Rattle.luks_kdf.specs.Bytes.{joined}
 use Rattle.luks_kdf.specs.Hash.{hash_name}
 use Rattle.luks_kdf.specs.Pbkdf2.{derived_key}
 use Rattle.luks_kdf.proofs.Pbkdf2Lemmas.{length-derived_key}
-use Rattle.luks_verdict.specs.Rule.{key_material_len}
+use Rattle.luks_format.specs.Rule.{key_material_len}
 use Rattle.luks_seal.specs.Pieces.{padded, wrapping_number}
 use Rattle.luks_seal.proofs.FieldLemmas.{Part, part, padded_begins, length-padded, at_inside, AreParts, are_parts}
 use Rattle.luks_seal.proofs.FieldLemmas.{IsThere}
@@ -24,10 +24,10 @@ use Rattle.luks_seal.specs.Layout1.{image1_of, key_slot1_of, material1_of, middl
 use Rattle.luks_seal.specs.Layout1.{start1_of, state1_of}
 use Rattle.luks_seal.specs.Ranges1.{AreParameters1, FitsSlot1, AreTyped1, IsTypedSlot1, Seal1, Slot1}
 use Rattle.std.proofs.lemmas.Nat.{from_be_bytes-to_be_bytes_4}
-use Rattle.luks1_header.specs.Header1.{key_slot_of, key_slots_of, header1_of as read_header1}
-use Rattle.luks1_header.specs.declared.header.Header1.{Header1}
-use Rattle.luks1_header.specs.declared.header.StoredSlot.{StoredSlot}
-use Rattle.luks1_header.specs.declared.header.SlotState.TheVariants.{Enabled}
+use Rattle.luks_format.specs.Header1.{key_slot_of, key_slots_of, header1_of as read_header1}
+use Rattle.luks_format.specs.declared.header.Header1.{Header1}
+use Rattle.luks_format.specs.declared.header.StoredSlot.{StoredSlot}
+use Rattle.luks_format.specs.declared.header.SlotState.TheVariants.{Enabled}
 
 -- ---- the header
 

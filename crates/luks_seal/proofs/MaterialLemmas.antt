@@ -21,15 +21,15 @@ use Rattle.luks_kdf.specs.Pbkdf2.{derived_key, t_of, u_of}
 use Rattle.luks_cipher.specs.Sector.{Cipher, mode_named, mode_name}
 use Rattle.luks_kdf.proofs.BytesLemmas.{length-xor}
 use Rattle.luks_kdf.proofs.StripesLemmas.{length-splitter_block}
-use Rattle.luks_verdict.specs.Rule.{key_material_len, area_out_of_range, is_digest}
-use Rattle.luks_verdict.specs.Rule.{iterations_out_of_range}
-use Rattle.luks_verdict.specs.Rule.{max_iteration_count, max_stripes, stripes_out_of_range}
-use Rattle.luks_verdict.specs.declared.slot.SlotParts.{SlotParts}
+use Rattle.luks_format.specs.Rule.{key_material_len, area_out_of_range, is_digest}
+use Rattle.luks_format.specs.Rule.{iterations_out_of_range}
+use Rattle.luks_format.specs.Rule.{max_iteration_count, max_stripes, stripes_out_of_range}
+use Rattle.luks_format.specs.declared.slot.SlotParts.{SlotParts}
 use Rattle.luks_seal.specs.Sealed.{IsMaterial, IsStoredEncrypted}
 use Rattle.luks_seal.proofs.SectorLemmas.{length-sectors_encrypted, sectors_are_stored}
 use Rattle.luks_seal.proofs.FieldLemmas.{IsThere, length-padded, padded_begins}
-use Rattle.luks_header_area.specs.Area.{max_loaded_len}
-use Rattle.luks_header_area.specs.Fields.{text_of}
+use Rattle.luks_format.specs.Area.{max_loaded_len}
+use Rattle.luks_format.specs.Fields.{text_of}
 use Rattle.luks_cipher.specs.declared.mode.Mode.{Mode}
 use Rattle.luks_cipher.specs.declared.mode.Mode.TheVariants.{XtsPlain64}
 

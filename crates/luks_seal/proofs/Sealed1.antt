@@ -3,18 +3,18 @@
 use Rattle.std.proofs.Common.{◌≡◌, ◌∙◌, ℕ, ◌+◌, ◌*◌, true, false, length, Some, None, Ok, refl, ap, arith, le-ltb}
 use Rattle.std.proofs.Common.{List, [], ◌∷◌, get_or, bytes_eq, option_map, sym}
 use Rattle.luks_kdf.proofs.Pbkdf2Lemmas.{length-derived_key}
-use Rattle.luks_verdict.specs.Rule.{key_material_len}
-use Rattle.luks_verdict.specs.Segment.{segment_from}
-use Rattle.luks_verdict.specs.Slot.{digest_from, has_no_usable_digest, slot_from}
-use Rattle.luks_verdict.specs.Table.{first_match}
-use Rattle.luks_verdict.specs.declared.sector_size.SectorSize.TheVariants.{B512}
-use Rattle.luks_verdict.specs.declared.slot.Verdict.TheVariants.{Usable}
-use Rattle.luks_verdict.proofs.MadeLemmas.{are_in_range, digest_from-yes, digest_of, is_usable, no_usable_digest-yes}
-use Rattle.luks_verdict.proofs.MadeLemmas.{segment_by, slot_from-yes, slot_of}
-use Rattle.luks1_header.specs.Segment1.{segment1_of, segment_faults1, overlaps_header1}
-use Rattle.luks1_header.specs.Slot1.{digest_parts1_of, hash1_of, area1_out_of_range, mode1_of}
-use Rattle.luks1_header.specs.Slot1.{payload1_start, slot_reasons1, slot1_of, slot_parts1_of, verdict1_of, verdict1_at}
-use Rattle.luks1_header.proofs.ValidationLemmas.{segment1-none, slot_there}
+use Rattle.luks_format.specs.Rule.{key_material_len}
+use Rattle.luks_format.specs.Segment.{segment_from}
+use Rattle.luks_format.specs.Slot.{digest_from, has_no_usable_digest, slot_from}
+use Rattle.luks_format.specs.Table.{first_match}
+use Rattle.luks_format.specs.declared.sector_size.SectorSize.TheVariants.{B512}
+use Rattle.luks_format.specs.declared.slot.Verdict.TheVariants.{Usable}
+use Rattle.luks_format.proofs.MadeLemmas.{are_in_range, digest_from-yes, digest_of, is_usable, no_usable_digest-yes}
+use Rattle.luks_format.proofs.MadeLemmas.{segment_by, slot_from-yes, slot_of}
+use Rattle.luks_format.specs.Segment1.{segment1_of, segment_faults1, overlaps_header1}
+use Rattle.luks_format.specs.Slot1.{digest_parts1_of, hash1_of, area1_out_of_range, mode1_of}
+use Rattle.luks_format.specs.Slot1.{payload1_start, slot_reasons1, slot1_of, slot_parts1_of, verdict1_of, verdict1_at}
+use Rattle.luks_format.proofs.ValidationLemmas.{segment1-none, slot_there}
 use Rattle.luks_seal.specs.Sealed.{IsDigestOf, GivesKey, Sealed, SealsKey, SealsPlain}
 use Rattle.luks_seal.proofs.MaterialLemmas.{area_fits, digest_fits, hash_is_named, iterations_fit, mode_is_named}
 use Rattle.luks_seal.proofs.MaterialLemmas.{stripes_fit, made_material, material_is_stored}
@@ -22,10 +22,10 @@ use Rattle.luks_seal.specs.Layout1.{area_sectors_of, area_key1_of, image1_of, ma
 use Rattle.luks_seal.specs.Ranges1.{AreParameters1, AreTyped1, passphrases1_of, Seal1, Slot1}
 use Rattle.std.proofs.lemmas.List.Elements.{All-map}
 use Rattle.luks_seal.proofs.FieldLemmas.{at_inside}
-use Rattle.luks1_header.specs.Header1.{is_luks1}
+use Rattle.luks_format.specs.Header1.{is_luks1}
 use Rattle.luks_header.specs.Header.{header_of}
 use Rattle.luks_header.specs.HeaderSegment.{segment_of}
-use Rattle.luks_verdict.specs.declared.derivation.Derivation.TheVariants.{Pbkdf2}
+use Rattle.luks_format.specs.declared.derivation.Derivation.TheVariants.{Pbkdf2}
 use Rattle.luks_header.specs.SlotVerdicts.{verdict_within}
 use Rattle.luks_header.specs.declared.header.Header.TheVariants.{V1}
 use Rattle.luks_seal.specs.Pieces.{sector_padded, stripes_of}
@@ -34,7 +34,7 @@ use Rattle.luks_seal.proofs.Layout1Lemmas.{IsUsed, ends_before, found_header, fo
 use Rattle.luks_seal.proofs.Layout1Lemmas.{header1_start_bytes, image1, material_there, random_stripes1, slot_read}
 use Rattle.luks_seal.proofs.Layout1Lemmas.{whole_header}
 use Rattle.luks_kdf.specs.Pbkdf2.{derived_key}
-use Rattle.luks_verdict.specs.declared.segment.Segment.{Segment}
+use Rattle.luks_format.specs.declared.segment.Segment.{Segment}
 
 -- the segment of a volume
 abbrev segment1 : Seal1 → Segment

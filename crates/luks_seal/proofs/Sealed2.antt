@@ -4,10 +4,10 @@ use Rattle.std.proofs.Common.{◌≡◌, ◌∙◌, ◌==◌, ℕ, zero, suc, �
 use Rattle.std.proofs.Common.{None, refl, sym, ap, arith, length-append, take_at, ◌≢◌, ◌≤◌, ◌++◌, replicate, Ok, true}
 use Rattle.std.proofs.Common.{false, get_or, slice_index, Bool, subst, le-ltb, ne_eqb, ◌∷◌, one-add}
 use Rattle.std.specs.Option.{option_map_or}
-use Rattle.luks_header_area.specs.Fields.{at, be64, text_of}
+use Rattle.luks_format.specs.Fields.{at, be64, text_of}
 use Rattle.luks_kdf.specs.Bytes.{joined}
-use Rattle.luks_verdict.proofs.SectorLemmas.{sector_blocks}
-use Rattle.luks_verdict.specs.SectorSize.{bytes_of}
+use Rattle.luks_format.proofs.SectorLemmas.{sector_blocks}
+use Rattle.luks_format.specs.SectorSize.{bytes_of}
 use Rattle.luks_seal.specs.Pieces.{encrypted_material, sector_padded, stripes_of, wrapping_number, padded}
 use Rattle.luks_seal.proofs.SectorLemmas.{IsImage, image_made}
 use Rattle.luks_seal.proofs.MaterialLemmas.{AreRandomStripes, length-material, made_material, material_is_stored}
@@ -25,7 +25,7 @@ use Rattle.luks_seal.proofs.Verdicts2.{segment_is, segment_read, slot_digest, sl
 use Rattle.std.specs.Int.{to_be_bytes, w64}
 use Rattle.std.proofs.lemmas.Str.{is_utf8-from_IsUtf8}
 use Rattle.luks_kdf.specs.declared.hash.Hash.TheVariants.{Sha256}
-use Rattle.luks1_header.specs.Header1.{is_luks1}
+use Rattle.luks_format.specs.Header1.{is_luks1}
 use Rattle.luks2_binary.specs.Choice2.{beginning_at, with_valid_primary, binary_at, chosen2_of, header2_of}
 use Rattle.luks2_binary.specs.Header2.{header2_from, sequence_in, size_in}
 use Rattle.luks2_binary.specs.Text2.{json_text_of}
@@ -36,13 +36,13 @@ use Rattle.luks_header.specs.Header.{bounds2_of, header_of as read_header}
 use Rattle.luks_header.specs.declared.header.Header.TheVariants.{V2}
 use Rattle.luks_seal.proofs.MetadataLemmas.{area_after_headers}
 use Rattle.std.proofs.lemmas.List.Elements.{All-map}
-use Rattle.luks_verdict.proofs.MadeLemmas.{segment_by}
-use Rattle.luks_verdict.specs.declared.digest.KeyDigest.{KeyDigest}
-use Rattle.luks_verdict.specs.declared.slot.SlotParts.{SlotParts}
+use Rattle.luks_format.proofs.MadeLemmas.{segment_by}
+use Rattle.luks_format.specs.declared.digest.KeyDigest.{KeyDigest}
+use Rattle.luks_format.specs.declared.slot.SlotParts.{SlotParts}
 use Rattle.luks2_metadata.specs.Segment2.{segment2_of}
 use Rattle.luks2_metadata.specs.Slot2.{verdict2_at}
 use Rattle.luks_header.specs.HeaderSegment.{segment_of}
-use Rattle.luks_verdict.specs.Derivation.{without_argon2}
+use Rattle.luks_format.specs.Derivation.{without_argon2}
 use Rattle.luks_header.specs.SlotVerdicts.{verdict_within}
 use Rattle.luks_seal.specs.Sealed.{EndsWith, GivesKey, IsDigestOf, Sealed, SealsKey, SealsPlain}
 

@@ -9,7 +9,7 @@ use Rattle.luks_seal.specs.Pieces.{encrypted_sector, wrapping_number, sector_at,
 use Rattle.std.proofs.lemmas.Bool.{cases_lt}
 use Rattle.luks_aes.specs.Aes.{add_round_key, cipher, encrypted}
 use Rattle.luks_aes.specs.Bytes.{IsBytes}
-use Rattle.luks_header_area.specs.Fields.{at}
+use Rattle.luks_format.specs.Fields.{at}
 use Rattle.luks_cipher.specs.Cbc.{cbc_encrypted, chained}
 use Rattle.luks_cipher.specs.Xts.{block_encrypted, block_xor, xts_encrypted}
 use Rattle.luks_cipher.specs.declared.mode.Mode.TheVariants.{XtsPlain64, XtsPlain, CbcEssivSha256, CbcPlain64}

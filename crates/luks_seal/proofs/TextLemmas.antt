@@ -14,8 +14,8 @@ use Rattle.serde_json.specs.Data.{member, no_members, object}
 use Rattle.luks_aes.specs.Bytes.{IsBytes}
 use Rattle.luks_cipher.specs.Sector.{mode_name}
 use Rattle.luks_cipher.specs.declared.mode.Mode.{Mode}
-use Rattle.luks_verdict.specs.SectorSize.{has_whole_sectors, bytes_of}
-use Rattle.luks_verdict.specs.declared.sector_size.SectorSize.{SectorSize}
+use Rattle.luks_format.specs.SectorSize.{has_whole_sectors, bytes_of}
+use Rattle.luks_format.specs.declared.sector_size.SectorSize.{SectorSize}
 use Rattle.luks2_json.specs.Member.{decimal_of, decimal_member, encryption_mode, string_is, string_member}
 use Rattle.luks2_json.proofs.EncodedLemmas.{numerals}
 use Rattle.luks2_metadata.specs.Segment2.{size_member}

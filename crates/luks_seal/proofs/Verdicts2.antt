@@ -4,12 +4,12 @@ use Rattle.std.specs.Prelude.{◌&&◌, option_and_then}
 use Rattle.std.proofs.Common.{◌≡◌, ◌∙◌, ◌*◌, ◌%◌, ◌<◌, ◌≤◌, ℕ, true, false, Some, None, Ok, length}
 use Rattle.std.proofs.Common.{ap, arith, refl, sym, codes, ◌+◌, le-leb, lt-ltb}
 use Rattle.std.proofs.lemmas.Bool.{eq-eqb, le-ltb}
-use Rattle.luks_verdict.specs.SectorSize.{has_whole_sectors}
-use Rattle.luks_verdict.specs.Segment.{segment_from}
-use Rattle.luks_verdict.specs.declared.segment.Segment.{Segment}
-use Rattle.luks_verdict.proofs.MadeLemmas.{are_in_range, digest_from-yes, digest_of, is_usable, segment_by}
-use Rattle.luks_verdict.proofs.MadeLemmas.{segment_of_all-yes, slot_from-yes, slot_of}
-use Rattle.luks_verdict.proofs.SectorLemmas.{sector_size_again}
+use Rattle.luks_format.specs.SectorSize.{has_whole_sectors}
+use Rattle.luks_format.specs.Segment.{segment_from}
+use Rattle.luks_format.specs.declared.segment.Segment.{Segment}
+use Rattle.luks_format.proofs.MadeLemmas.{are_in_range, digest_from-yes, digest_of, is_usable, segment_by}
+use Rattle.luks_format.proofs.MadeLemmas.{segment_of_all-yes, slot_from-yes, slot_of}
+use Rattle.luks_format.proofs.SectorLemmas.{sector_size_again}
 use Rattle.luks2_json.specs.Member.{decimal_member, string_is, string_member, integer_member, base64_member}
 use Rattle.luks2_json.specs.Member.{hash_member, is_length_for}
 use Rattle.luks2_json.specs.Member.{encryption_mode, in_member}
@@ -30,8 +30,8 @@ use Rattle.std.proofs.lemmas.Fmt.{decimal_digit}
 use Rattle.luks_kdf.specs.Hash.{digest_len}
 use Rattle.luks_kdf.specs.Pbkdf2.{derived_key}
 use Rattle.luks_kdf.proofs.Pbkdf2Lemmas.{digest_sizes, length-derived_key}
-use Rattle.luks_verdict.specs.declared.digest.DigestParts.{DigestParts}
-use Rattle.luks_verdict.specs.declared.digest.KeyDigest.{KeyDigest}
+use Rattle.luks_format.specs.declared.digest.DigestParts.{DigestParts}
+use Rattle.luks_format.specs.declared.digest.KeyDigest.{KeyDigest}
 use Rattle.luks2_json.specs.List.{has_strings, array_contains}
 use Rattle.luks2_json.specs.Numbered.{object_numbered}
 use Rattle.luks2_json.proofs.NumberedLemmas.{lowest_found, lowest_none}
@@ -40,17 +40,17 @@ use Rattle.luks2_metadata.specs.Digest2.{own_digest_at}
 use Rattle.luks_seal.specs.Sealed.{IsDigestOf}
 use Rattle.luks_seal.proofs.MaterialLemmas.{derived_bytes}
 use Rattle.luks_seal.proofs.MaterialLemmas.{digest_fits, hash_is_named, area_fits, iterations_fit, stripes_fit}
-use Rattle.luks_verdict.specs.Derivation.{derivation_refusal, without_argon2}
-use Rattle.luks_verdict.specs.declared.derivation.Derivation.TheVariants.{Pbkdf2}
-use Rattle.luks_verdict.specs.declared.slot.SlotParts.{SlotParts}
+use Rattle.luks_format.specs.Derivation.{derivation_refusal, without_argon2}
+use Rattle.luks_format.specs.declared.derivation.Derivation.TheVariants.{Pbkdf2}
+use Rattle.luks_format.specs.declared.slot.SlotParts.{SlotParts}
 use Rattle.luks2_metadata.specs.Kdf2.{kdf2_of, variant_of}
 use Rattle.luks2_metadata.specs.Slot2.{form_refusal, has_members, is_af, is_area, is_kdf, is_pbkdf2, material_refusal}
 use Rattle.luks2_metadata.specs.Slot2.{place_refusal, priority_of, reason2_of, slot2_of, slot_parts2_of, verdict2_at}
 use Rattle.luks2_metadata.specs.Slot2.{verdict2_of}
-use Rattle.luks_verdict.specs.Rule.{area_out_of_range, iterations_out_of_range, key_material_len, stripes_out_of_range}
-use Rattle.luks_verdict.specs.Slot.{has_no_usable_digest}
-use Rattle.luks_verdict.specs.declared.slot.Slot.{Slot}
-use Rattle.luks_verdict.specs.declared.slot.Verdict.TheVariants.{Usable}
+use Rattle.luks_format.specs.Rule.{area_out_of_range, iterations_out_of_range, key_material_len, stripes_out_of_range}
+use Rattle.luks_format.specs.Slot.{has_no_usable_digest}
+use Rattle.luks_format.specs.declared.slot.Slot.{Slot}
+use Rattle.luks_format.specs.declared.slot.Verdict.TheVariants.{Usable}
 
 -- ---- the segment
 

@@ -16,7 +16,7 @@ use Rattle.luks_kdf.specs.Bytes.{joined}
 use Rattle.luks_kdf.specs.Hash.{hash_name, hash_of, digest_len}
 use Rattle.luks_kdf.specs.Pbkdf2.{derived_key}
 use Rattle.luks_kdf.specs.declared.hash.Hash.TheVariants.{Sha256}
-use Rattle.luks_verdict.specs.SectorSize.{bytes_of}
+use Rattle.luks_format.specs.SectorSize.{bytes_of}
 use Rattle.luks_seal.specs.Pieces.{encrypted_material, padded, sectors_encrypted, stripes_of}
 use Rattle.luks_seal.specs.Ranges.{FitsText}
 use Rattle.luks_seal.specs.Ranges2.{area_size, area_start, slot_numbered, Seal2, Slot2}

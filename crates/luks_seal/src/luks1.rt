@@ -16,7 +16,7 @@ use crate::parameters::{Seal1, SealFault, Slot1};
 use crate::pieces::{
     cipher_with, derived_key, encrypted, encrypted_material, padded, push_padded, stripes_of,
 };
-use luks_verdict::sector_size::SectorSize;
+use luks_format::sector_size::SectorSize;
 use std::alloc::{AllocError, Global};
 
 mod headers;

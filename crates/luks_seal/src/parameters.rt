@@ -1,8 +1,8 @@
 //! What a volume is made from. Parameters are not `Debug`, since they hold keys and passphrases.
 
 use luks_cipher::Mode;
+use luks_format::sector_size::SectorSize;
 use luks_kdf::Hash;
-use luks_verdict::sector_size::SectorSize;
 use std::alloc::AllocError;
 
 /// A volume of LUKS1.

@@ -7,11 +7,11 @@ ghost use Rattle.luks_kdf.specs.Pbkdf2.{derived_key};
 ghost use Rattle.luks_seal.specs.Pieces.{encrypted_material, padded, sectors_encrypted, stripes_of};
 ghost use Rattle.luks_seal.specs.Pieces.{wrapping_number, sector_padded};
 ghost use Rattle.luks_seal.specs.Ranges.{FitsKey};
-ghost use Rattle.luks_verdict.specs.SectorSize.{bytes_of};
+ghost use Rattle.luks_format.specs.SectorSize.{bytes_of};
 
 use luks_cipher::{Mode, SectorCipher};
+use luks_format::sector_size::SectorSize;
 use luks_kdf::{Hash, Work, af_split, pbkdf2};
-use luks_verdict::sector_size::SectorSize;
 use std::alloc::{AllocError, Global};
 
 /// Bytes padded with zeros to this length.

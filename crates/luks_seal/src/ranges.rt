@@ -2,9 +2,9 @@
 
 ghost use Rattle.std.specs.Prelude.{◌≡◌, ◌≢◌, ◌<◌, ◌≤◌, ◌↔◌, ℕ, length, IsTrue};
 ghost use Rattle.luks_seal.specs.Ranges.{FitsPlain, FitsText};
-ghost use Rattle.luks_verdict.specs.SectorSize.{bytes_of};
+ghost use Rattle.luks_format.specs.SectorSize.{bytes_of};
 
-use luks_verdict::sector_size::SectorSize;
+use luks_format::sector_size::SectorSize;
 
 /// The text has at most this many bytes, none of them zero.
 pub fn fits_text(max_len: usize, text: &[u8]) -> bool

@@ -7,8 +7,8 @@ use Rattle.std.specs.List.{find, list_all, list_any}
 use Rattle.std.proofs.lemmas.Bool.{and_parts, false_from_ne_true, leb-true, ltb-false, ltb-true, or_parts}
 use Rattle.std.proofs.lemmas.List.{drop-drop, drop_all, take-append-le, take-take}
 use Rattle.std.proofs.lemmas.Slice.Eq.{bytes_eq-Decides}
-use Rattle.luks_header_area.specs.declared.fault.HeaderFault.TheVariants.{NotLuks}
-use Rattle.luks1_header.specs.Header1.{is_luks1}
+use Rattle.luks_format.specs.declared.fault.HeaderFault.TheVariants.{NotLuks}
+use Rattle.luks_format.specs.Header1.{is_luks1}
 use Rattle.luks2_binary.specs.Choice2.{beginning_at, chosen2_of, fits}
 use Rattle.luks2_binary.specs.Choice2.{found_at, header2_of, is_binary_of, is_valid}
 use Rattle.luks2_binary.specs.Header2.{sizes}

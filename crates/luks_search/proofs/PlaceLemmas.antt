@@ -10,7 +10,7 @@ use Rattle.std.proofs.lemmas.Bool.{leb-false, leb-true, ltb-true}
 use Rattle.std.proofs.Math.Seq.{take-add, take-length}
 use Rattle.std.specs.Prelude.{OnErr, nat_le, nat_lt}
 use Rattle.luks_io.specs.Devices.{ConsumedInto}
-use Rattle.luks_header_area.specs.declared.fault.HeaderFault.{HeaderFault}
+use Rattle.luks_format.specs.declared.fault.HeaderFault.{HeaderFault}
 use Rattle.luks_header.specs.Header.{header_of}
 use Rattle.luks_header.specs.declared.header.Header.{Header}
 use Rattle.luks_search.specs.Magic.{IsQuiet, begins_magic}

@@ -3,7 +3,7 @@
 use Rattle.std.specs.Prelude.{ℕ, zero, suc, ◌+◌, ◌*◌, ◌/◌, ◌^◌, ◌++◌, List, []}
 use Rattle.std.specs.Prelude.{◌∷◌, Option, Some, None, Result, Ok, Err, drop}
 use Rattle.std.specs.Prelude.{length, min}
-use Rattle.luks_header_area.specs.declared.fault.HeaderFault.{HeaderFault}
+use Rattle.luks_format.specs.declared.fault.HeaderFault.{HeaderFault}
 use Rattle.luks_header.specs.Header.{header_of}
 use Rattle.luks_header.specs.declared.header.Header.{Header}
 

@@ -1,7 +1,7 @@
 //! Opens the inputs of a run, with the readers of this program.
 
 use luks_host::input::Input;
-use luks_host::opening::{OpenedInput, open_input};
+use luks_host::open_input::{OpenedInput, open_input};
 use luks_host::system::InputFault;
 use std::fs::File;
 use std::io::Stdin;

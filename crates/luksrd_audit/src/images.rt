@@ -2,7 +2,7 @@
 
 use luks_audit_run::host::{ImageFault, Images};
 use luks_host::input::Input;
-use luks_host::opening::{OpenedInput, open_input};
+use luks_host::open_input::{OpenedInput, open_input};
 use luks_host::system::InputFault;
 use luks_io::adapters::ReadSource;
 use std::fs::File;

@@ -65,5 +65,10 @@ fn measure(rt: &HostRuntime, hash: Hash, iterations: u32, length: usize) -> io::
     let start = rt.process_cpu_time()?;
     pbkdf2(hash, PASS, SALT, iterations, key, &mut work);
     let elapsed = rt.process_cpu_time()?.saturating_sub(start);
-    eprintln!(rt; "{} {} {}", work.count(), elapsed.as_nanos(), Hex { bytes: key })
+    eprintln!(rt;
+        "{} {} {}",
+        work.count(),
+        elapsed.as_nanos(),
+        Hex { bytes: key }
+    )
 }

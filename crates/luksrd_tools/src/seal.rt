@@ -7,11 +7,11 @@
 use crate::mode_key::key_of;
 use crate::usage::print_usage;
 use luks_cipher::Mode;
+use luks_format::sector_size::SectorSize;
 use luks_kdf::Hash;
 use luks_seal::luks1::seal1;
 use luks_seal::luks2::seal2;
 use luks_seal::parameters::{Seal1, Seal2, SealFault, Slot1, Slot2};
-use luks_verdict::sector_size::SectorSize;
 use std::alloc::{AllocError, Global};
 use std::env::Args;
 use std::io::{self, Write};

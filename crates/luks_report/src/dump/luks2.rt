@@ -12,7 +12,7 @@ use luks2_json::tree::Metadata;
 use std::alloc::{AllocError, Global};
 
 mod digests;
-mod payload;
+mod segments;
 mod slots;
 
 /// The line with the UUID alone.
@@ -41,7 +41,7 @@ pub(crate) fn dump_text(
     push_role(alloc, &mut lines, header)?;
     push_texts(alloc, &mut lines, header)?;
     slots::push_slots(alloc, &mut lines, whole)?;
-    payload::push_segment(alloc, &mut lines, metadata, bounds)?;
+    segments::push_segment(alloc, &mut lines, metadata, bounds)?;
     digests::push_digests(alloc, &mut lines, metadata)?;
     Ok(lines)
 }

@@ -6,7 +6,7 @@ ghost use Rattle.luks_seal.specs.Ranges1.{AreParameters1, FitsCounts1, FitsSlot1
 use crate::parameters::{Seal1, Slot1};
 use crate::ranges::{fits_plain, fits_text};
 use crate::slots::are_distinct;
-use luks_verdict::sector_size::SectorSize;
+use luks_format::sector_size::SectorSize;
 
 /// The sectors of 512 bytes that a slot's stripes need, rounded up to a multiple of 8.
 pub(crate) fn area_sectors(key: usize, stripes: u32) -> u32

@@ -2,7 +2,7 @@ use Rattle.std.proofs.Common.{rules, tests, ap, ◌∙◌}
 use Rattle.std.specs.Prelude.{not, string_bytes}
 use Rattle.std.specs.List.{list_any}
 use Rattle.std.proofs.lemmas.Iterator.Search.{any_from_yields_List}
-use Rattle.luks_verdict.specs.Rule.{max_slots}
+use Rattle.luks_format.specs.Rule.{max_slots}
 use Rattle.luks2_json.specs.Numbered.{is_number_below}
 use Rattle.luks2_json.proofs.NumberedLemmas.{keys_given, list_any-names}
 use Rattle.luks2_json.proofs.numbered.any_other_name.Goals as goal

@@ -2,23 +2,23 @@ use Rattle.std.proofs.Common.{◌≡◌, ◌∙◌, ℕ, Bool, List, Option, Ok,
 use Rattle.std.specs.Prelude.{if◌then◌else◌}
 use Rattle.luks_io.proofs.ErrorLemmas.{given_error}
 use Rattle.luks_cipher.specs.Sector.{is_mode_key_length}
-use Rattle.luks_header_area.specs.declared.fault.HeaderFault.{HeaderFault}
-use Rattle.luks_header_area.specs.declared.fault.HeaderFault.TheVariants.{Read as HeaderRead, Memory as HeaderMemory}
-use Rattle.luks_verdict.specs.declared.refusal.SegmentFault.{SegmentFault}
-use Rattle.luks_verdict.specs.declared.segment.Segment.{Segment}
+use Rattle.luks_format.specs.declared.fault.HeaderFault.{HeaderFault}
+use Rattle.luks_format.specs.declared.fault.HeaderFault.TheVariants.{Read as HeaderRead, Memory as HeaderMemory}
+use Rattle.luks_format.specs.declared.refusal.SegmentFault.{SegmentFault}
+use Rattle.luks_format.specs.declared.segment.Segment.{Segment}
 use Rattle.luks_header.proofs.KnownLemmas.{memory_below}
 use Rattle.luks_header.specs.Header.{ReadsNoHeader, header_read_len}
 use Rattle.luks_header.specs.HeaderSegment.{segment_of}
 use Rattle.luks_header.specs.declared.header.Header.{Header}
-use Rattle.luks_key_slots.specs.VolumeKey.{compared, key_digest_of}
-use Rattle.luks_key_slots.specs.declared.volume_key.KeyCheck.{KeyCheck}
-use Rattle.luks_key_slots.specs.declared.volume_key.KeyCheck.TheVariants.{Differs}
-use Rattle.luks_key_slots.specs.Fault.{aborts_opening}
-use Rattle.luks_key_slots.specs.declared.fault.VolumeFault.TheVariants.{Header as HeaderNotRead}
-use Rattle.luks_key_slots.specs.declared.fault.VolumeFault.TheVariants.{Segment as SegmentRefused}
-use Rattle.luks_runs.proofs.RunLemmas.{reading_fault}
-use Rattle.luks_runs.specs.Location.{reader_for}
-use Rattle.luks_runs.specs.declared.location.HeaderLocation.{HeaderLocation}
+use Rattle.luks_open.specs.VolumeKey.{compared, key_digest_of}
+use Rattle.luks_open.specs.declared.volume_key.KeyCheck.{KeyCheck}
+use Rattle.luks_open.specs.declared.volume_key.KeyCheck.TheVariants.{Differs}
+use Rattle.luks_open.specs.Fault.{aborts_opening}
+use Rattle.luks_open.specs.declared.fault.VolumeFault.TheVariants.{Header as HeaderNotRead}
+use Rattle.luks_open.specs.declared.fault.VolumeFault.TheVariants.{Segment as SegmentRefused}
+use Rattle.luks_open.proofs.VolumeLemmas.{reading_fault}
+use Rattle.luks_open.specs.Location.{reader_for}
+use Rattle.luks_open.specs.declared.location.HeaderLocation.{HeaderLocation}
 use Rattle.luks_access.specs.Keys.{ConsumesToCheck, check_in_header, check_in_segment, key_check_of}
 use Rattle.luks_access.proofs.key.check_key_from.Goals as goal
 

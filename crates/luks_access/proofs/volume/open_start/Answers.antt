@@ -1,6 +1,6 @@
 use Rattle.std.proofs.Common.{◌∙◌, ◌≡◌, ◌<◌, Bool, arith, refl, true, take}
 use Rattle.std.proofs.lemmas.Result.{IfErr-weaker, IfOk-weaker}
-use Rattle.luks_header_area.specs.Area.{max_loaded_len}
+use Rattle.luks_format.specs.Area.{max_loaded_len}
 use Rattle.luks_io.specs.Counts.{Reads, unread}
 use Rattle.luks_io.specs.declared.counts.ReadCounts.{ReadCounts}
 use Rattle.luks_access.proofs.OpeningLemmas.{opened_at_start, refused_at_start}

@@ -5,7 +5,7 @@ use super::assert_that;
 use luks_host::descriptors::stand_ins;
 use luks_host::file_kind::kind_of_mode;
 use luks_host::is_output::{is_output, is_output_named};
-use luks_host::opening::{OpenedInput, open_input};
+use luks_host::open_input::{OpenedInput, open_input};
 use luks_host::storage::{FileFacts, FileKind};
 use luks_host::system::{InputFault, System};
 use std::alloc::{AllocError, Global};

@@ -1,7 +1,7 @@
 use Rattle.std.proofs.Common.{◌∙◌, List, ℕ, ap, rules, subst, sym}
 use Rattle.std.proofs.lemmas.Option.{same_Some}
 use Rattle.luks_cipher.specs.Expanded.{AreExpanded}
-use Rattle.luks_verdict.specs.declared.segment.Segment.{Segment}
+use Rattle.luks_format.specs.declared.segment.Segment.{Segment}
 use Rattle.luks_c.specs.Stored.{key_in, segment_in}
 use Rattle.luks_c.specs.declared.volume.LuksrdVolume.{LuksrdVolume}
 use Rattle.luks_c.proofs.StoredLemmas.{filled_code}

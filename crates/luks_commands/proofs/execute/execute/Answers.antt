@@ -5,8 +5,8 @@ use Rattle.luks_commands.specs.Headline.{Change, RunsAsSpecified, WritesPlain, p
 use Rattle.luks_io.specs.Devices.{Appended}
 use Rattle.luks_report.specs.declared.message.Message.{Message}
 use Rattle.luks_request.specs.Request.{Request, luks_cat, request_of}
-use Rattle.luks_runs.specs.Allowed.{pbkdf2_alone}
-use Rattle.luks_runs.specs.declared.location.HeaderLocation.TheVariants.{Attached}
+use Rattle.luks_open.specs.Allowed.{pbkdf2_alone}
+use Rattle.luks_open.specs.declared.location.HeaderLocation.TheVariants.{Attached}
 use Rattle.luks_runs.proofs.HonestVolumes.{unsealed}
 
 -- a run of `luksCat` that matches its outcome and is not aborted writes the plaintext of an honestly sealed volume

@@ -2,7 +2,7 @@
 
 use super::fixture::{JSON, PRIMARY, SECONDARY, Sketch, flip, image_of, read_from};
 use crate::tests::shared::assert_in;
-use luks_header_area::fault::HeaderFault;
+use luks_format::fault::HeaderFault;
 use luks_io::memory::MemSource;
 use luks_kdf::Hash;
 use luks2_binary::header::{Header2, HeaderRole, PairFinding};

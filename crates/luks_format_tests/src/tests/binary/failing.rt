@@ -3,7 +3,7 @@
 
 use super::fixture::{JSON, PRIMARY, SECONDARY, Sketch, fault_of, flip, image_of, read_from, seal};
 use crate::tests::shared::{assert_in, assert_of};
-use luks_header_area::fault::HeaderFault;
+use luks_format::fault::HeaderFault;
 use luks_io::memory::MemSource;
 use luks_kdf::Hash;
 use luks_test_support::bytes::{put, range_mut};

@@ -3,9 +3,9 @@
 //! If a call must succeed, an error ends the test at once: what is not returned need not be dropped
 //! on the way.
 
+use luks_format::area::HeaderArea;
+use luks_format::fault::HeaderFault;
 use luks_header::header::{Header, read_header};
-use luks_header_area::area::HeaderArea;
-use luks_header_area::fault::HeaderFault;
 use luks_io::source::Source;
 use luks_kdf::{Hash, digest};
 use luks_test_support::bytes::{put, range_mut};

@@ -5,7 +5,7 @@ use super::validation::{Numbers, PAYLOAD_OFFSET, SLOT_OFFSET, fault_of, is_there
 use crate::tests::shared::{assert_of, kept};
 use luks_header::derivation::Limits;
 use luks_header::header::Header;
-use luks_header::slot::{VerdictKind, verdict_kind};
+use luks_header::header_slots::{VerdictKind, verdict_kind};
 use std::process::Abort;
 
 // A salt of 8 bytes 01, and a digest of 20 bytes 02, by Python's base64.b64encode.

@@ -2,9 +2,9 @@
 
 use super::fixture::{first, image2, parse};
 use crate::tests::shared::{assert_in, assert_of};
-use luks_header::digest::{Digest, KeyDigest, digests};
 use luks_header::header::Header;
-use luks_header::slot::has_name_out_of_range;
+use luks_header::header_digests::{Digest, KeyDigest, digests};
+use luks_header::header_slots::has_name_out_of_range;
 use luks_kdf::Hash;
 use std::process::Abort;
 

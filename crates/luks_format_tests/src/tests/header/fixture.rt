@@ -6,7 +6,7 @@
 use crate::tests::shared::{assert_in, kept};
 use luks_header::fault::HeaderFault;
 use luks_header::header::{Header, read_header};
-use luks_header::slot::{Verdict, slots};
+use luks_header::header_slots::{Verdict, slots};
 use luks_io::memory::MemSource;
 use luks_io::source::Source;
 use luks_test_support::bytes::{put, put_each, put_numbers};

@@ -7,7 +7,7 @@ use super::validation::{
 };
 use crate::tests::shared::assert_in;
 use luks_header::header::Header;
-use luks_header::slot::Verdict;
+use luks_header::header_slots::Verdict;
 use luks_test_support::bytes::{put, put_numbers};
 use luks_test_support::numbers::next;
 use std::process::Abort;

@@ -4,12 +4,12 @@ use super::fixture::{first, verdicts};
 use crate::tests::shared::{assert_in, assert_of};
 use luks_cipher::Mode;
 use luks_header::derivation::{Derivation, Limits};
-use luks_header::digest::{KeyDigest, digest_for};
 use luks_header::header::Header;
-use luks_header::payload::segment;
+use luks_header::header_digests::{KeyDigest, digest_for};
+use luks_header::header_segment::segment;
+use luks_header::header_slots::{Slot, Verdict, VerdictKind, slot, verdict_kind};
 use luks_header::refusal::{SegmentFault, SkipReason};
 use luks_header::sector_size::SectorSize;
-use luks_header::slot::{Slot, Verdict, VerdictKind, slot, verdict_kind};
 use luks_kdf::Hash;
 use std::process::Abort;
 

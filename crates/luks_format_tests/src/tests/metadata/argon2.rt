@@ -5,9 +5,9 @@ use super::fixture::{ATTACHED, metadata};
 use super::slots::word;
 use crate::tests::shared::assert_of;
 use luks_argon2::Variant;
-use luks_verdict::derivation::{Argon2Limits, Argon2Parameters, Derivation, Limits};
+use luks_format::derivation::{Argon2Limits, Argon2Parameters, Derivation, Limits};
 use luks2_json::tree::Metadata;
-use luks2_metadata::slot::{slot, verdict_kind};
+use luks2_metadata::luks2_slot::{slot, verdict_kind};
 use std::process::Abort;
 
 // These limits on the memory and on the fill of a slot, in KiB.

@@ -3,15 +3,15 @@
 use super::fixture::{ATTACHED, joined, metadata};
 use super::tables::{Subject, check_rows};
 use crate::tests::shared::assert_of;
+use luks_format::derivation::Limits;
+use luks_format::digest::KeyDigest;
+use luks_format::refusal::SkipReason;
+use luks_format::slot::VerdictKind;
 use luks_kdf::Hash;
-use luks_verdict::derivation::Limits;
-use luks_verdict::digest::KeyDigest;
-use luks_verdict::refusal::SkipReason;
-use luks_verdict::slot::VerdictKind;
 use luks2_json::tree::Metadata;
 use luks2_metadata::bounds::Bounds;
-use luks2_metadata::digest::{Digest, digest_for, digests};
-use luks2_metadata::slot::verdict_kind;
+use luks2_metadata::luks2_digest::{Digest, digest_for, digests};
+use luks2_metadata::luks2_slot::verdict_kind;
 use std::process::Abort;
 
 const NO_USABLE_DIGEST: VerdictKind = VerdictKind::Skipped(SkipReason::Digest);

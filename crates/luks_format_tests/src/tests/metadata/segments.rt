@@ -4,11 +4,11 @@ use super::fixture::{ATTACHED, metadata};
 use super::tables::{Subject, check_rows};
 use crate::tests::shared::assert_of;
 use luks_cipher::Mode;
-use luks_verdict::sector_size::SectorSize;
-use luks_verdict::segment::{Segment, SegmentParts};
+use luks_format::sector_size::SectorSize;
+use luks_format::segment::{Segment, SegmentParts};
 use luks2_json::tree::Metadata;
 use luks2_metadata::bounds::Bounds;
-use luks2_metadata::segment::segment;
+use luks2_metadata::luks2_segment::segment;
 use std::process::Abort;
 
 /// The verdict on the segment.

@@ -5,12 +5,12 @@ use super::fixture::{ATTACHED, changed, metadata, read, text_with};
 use super::tables::{Subject, check_rows, check_verdicts};
 use crate::tests::shared::assert_of;
 use luks_cipher::Mode;
+use luks_format::derivation::{Derivation, Limits};
+use luks_format::slot::{Slot, VerdictKind};
 use luks_kdf::Hash;
-use luks_verdict::derivation::{Derivation, Limits};
-use luks_verdict::slot::{Slot, VerdictKind};
 use luks2_json::tree::Metadata;
 use luks2_metadata::bounds::Bounds;
-use luks2_metadata::slot::{slot, verdict_kind};
+use luks2_metadata::luks2_slot::{slot, verdict_kind};
 use std::process::Abort;
 
 /// A verdict in a word.

@@ -3,7 +3,7 @@
 use super::assert_answer;
 use super::fixture::{BEFORE_X, joined, quoted, read, with_member};
 use crate::tests::shared::{assert_of, kept};
-use luks_header_area::fault::HeaderFault;
+use luks_format::fault::HeaderFault;
 use luks2_json::list::{array_contains, strings_at};
 use luks2_json::member::{integer_member, string_member};
 use luks2_json::numbered::{has_key_out_of_range, object_numbered};

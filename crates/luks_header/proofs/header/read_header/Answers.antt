@@ -4,7 +4,7 @@ use Rattle.luks_io.proofs.ErrorLemmas.{given_error}
 use Rattle.luks_header.proofs.LoadingLemmas.{all_itself, first_near, header_read, loading_aborted, more_ended}
 use Rattle.luks_header.proofs.LoadingLemmas.{more_first, more_searched, more_short, more_within}
 use Rattle.luks_header.proofs.LoadingLemmas.{no_header_read, no_tree}
-use Rattle.luks_header_area.specs.declared.fault.HeaderFault.TheVariants.{Memory}
+use Rattle.luks_format.specs.declared.fault.HeaderFault.TheVariants.{Memory}
 use Rattle.luks_header.proofs.header.read_header.Goals as goal
 
 pub loop-end-preserved : goal.loop-end-preserved

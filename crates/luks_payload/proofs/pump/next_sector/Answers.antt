@@ -1,6 +1,6 @@
 use Rattle.std.proofs.Common.{◌≡◌, ◌<◌, ◌∙◌, take, length, length-take-le, arith}
 use Rattle.luks_io.proofs.ErrorLemmas.{given_error}
-use Rattle.luks_verdict.proofs.SectorLemmas.{sector_blocks}
+use Rattle.luks_format.proofs.SectorLemmas.{sector_blocks}
 use Rattle.luks_payload.specs.PumpEffects.{max_sectors}
 use Rattle.luks_payload.specs.Plain.{sector_len}
 use Rattle.luks_payload.proofs.ForwardingLemmas.{short_reads, whole_reads}

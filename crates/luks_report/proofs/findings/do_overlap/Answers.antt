@@ -1,5 +1,5 @@
 use Rattle.std.proofs.Common.{arith}
-use Rattle.luks_verdict.proofs.RangeLemmas.{slot_range}
+use Rattle.luks_format.proofs.RangeLemmas.{slot_range}
 use Rattle.luks_report.proofs.findings.do_overlap.Goals as goal
 
 pub overflow_add-a_end : goal.overflow_add-a_end

@@ -10,7 +10,7 @@ use super::slots::hash_text;
 use crate::dump_line::push_field;
 use crate::escaping::push_escaped_text;
 use luks2_json::tree::Metadata;
-use luks2_metadata::digest::{Digest, digests};
+use luks2_metadata::luks2_digest::{Digest, digests};
 use std::alloc::{AllocError, Global};
 
 /// Adds a line for each digest.

@@ -3,16 +3,16 @@
 ghost use Rattle.std.specs.Prelude.{◌≡◌, ◌++◌, None, IfOk, OnOk, flat_map, string_bytes};
 ghost use Rattle.luks_report.specs.Dump2.{hash_text, kdf_text, slot2_line, usable_text};
 ghost use Rattle.luks_report.specs.Dump2.{variant_text, verdict_text};
-ghost use Rattle.luks_verdict.specs.declared.derivation.Derivation.{Derivation};
+ghost use Rattle.luks_format.specs.declared.derivation.Derivation.{Derivation};
 ghost use Rattle.luks_header.specs.SlotVerdicts.{verdicts_of};
 
 use crate::dump_line::push_field;
 use luks_argon2::Variant;
+use luks_format::derivation::{Argon2Parameters, Derivation};
+use luks_format::slot::{SlotParts, Verdict};
 use luks_header::header::Header;
-use luks_header::slot::slots;
+use luks_header::header_slots::slots;
 use luks_kdf::Hash;
-use luks_verdict::derivation::{Argon2Parameters, Derivation};
-use luks_verdict::slot::{SlotParts, Verdict};
 use std::alloc::{AllocError, Global};
 
 /// Adds a line for each key slot of a header.

@@ -1,6 +1,6 @@
 use Rattle.std.proofs.Common.{◌≡◌, ◌∙◌, ◌/◌, ◌%◌, ◌≤◌, ap, arith, length, subst, sym, refl}
 use Rattle.luks_kdf.specs.Bytes.{joined}
-use Rattle.luks_verdict.proofs.SectorLemmas.{sector_blocks}
+use Rattle.luks_format.proofs.SectorLemmas.{sector_blocks}
 use Rattle.luks_seal.specs.Pieces.{sectors_encrypted}
 use Rattle.luks_seal.proofs.SectorLemmas.{piece_len, sectors_more}
 use Rattle.luks_seal.proofs.pieces.encrypted.Goals as goal

@@ -3,10 +3,10 @@
 use super::assert_at;
 use super::fixture::{OPTIONS, image2, is_range, opened, text};
 use luks_access::volume::Volume;
+use luks_format::sector_size::SectorSize;
 use luks_payload::fault::PayloadFault;
 use luks_payload::state::Step;
 use luks_seal_fixtures::bytes::at;
-use luks_verdict::sector_size::SectorSize;
 use std::process::Abort;
 
 /// How an image ends: its length, that of its plaintext, and how the payload ends.

@@ -8,10 +8,10 @@ use luks_access::volume::{MAX_PASSPHRASE_LEN, Volume};
 use luks_access::{
     HeaderFault, HeaderLocation, OpenFault, PassphraseFault, SlotChoice, VolumeFault,
 };
+use luks_format::sector_size::SectorSize;
 use luks_seal_fixtures::bytes::at;
 use luks_seal_fixtures::parameters::KEY;
 use luks_test_support::scarce::Scarcity;
-use luks_verdict::sector_size::SectorSize;
 use std::alloc::Global;
 use std::process::Abort;
 

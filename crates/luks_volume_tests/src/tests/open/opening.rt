@@ -3,8 +3,8 @@
 use super::volumes::{LONG_KEY, Question, SHORT_KEY, Volume, answer};
 use luks_header::refusal::SkipReason;
 use luks_kdf::Work;
-use luks_key_slots::fault::OpenFault;
-use luks_key_slots::opening::Opened;
+use luks_open::fault::OpenFault;
+use luks_open::opening::Opened;
 use luks_test_support::header1::USUAL_NUMBERS;
 use std::process::Abort;
 

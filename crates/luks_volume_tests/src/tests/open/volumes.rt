@@ -10,13 +10,13 @@
 
 use luks_header::area::HeaderArea;
 use luks_header::header::{Header, read_header};
-use luks_header::payload::segment;
+use luks_header::header_segment::segment;
 use luks_io::memory::MemSource;
 use luks_kdf::Work;
-use luks_key_slots::fault::OpenFault;
-use luks_key_slots::opening::{Opened, open};
-use luks_key_slots::order::key_material_end;
-use luks_key_slots::ordering::order;
+use luks_open::fault::OpenFault;
+use luks_open::opening::{Opened, open};
+use luks_open::order::key_material_end;
+use luks_open::ordering::order;
 use std::process::Abort;
 
 /// An image: its length, and rows that each have an offset and the bytes that are there.

@@ -3,7 +3,7 @@ use Rattle.std.proofs.Common.{◌<◌, ◌≤◌, List, ◌++◌, Option, None, 
 use Rattle.std.proofs.lemmas.List.{drop-drop, drop-take, drop_all, length-take, take_at, take-append-drop, take-take}
 use Rattle.std.proofs.lemmas.Option.{same_Some}
 use Rattle.std.specs.Io.KnownBytes.{Consumes, IsAtEnd, Keeps}
-use Rattle.luks_header_area.specs.Area.{max_loaded_len}
+use Rattle.luks_format.specs.Area.{max_loaded_len}
 use Rattle.luks_io.specs.Devices.{IfKnown}
 use Rattle.luks_access.specs.declared.image.ReadAtFault.{ReadAtFault}
 use Rattle.luks_access.specs.declared.image.ReadAtFault.TheVariants.{Failed, Ended}

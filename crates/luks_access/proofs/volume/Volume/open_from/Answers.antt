@@ -1,13 +1,13 @@
 use Rattle.std.proofs.Common.{◌<◌, Err, Ok, Some, ap, arith, drop, length, refl, ◌+◌}
 use Rattle.luks_io.proofs.ErrorLemmas.{given_error}
-use Rattle.luks_key_slots.specs.declared.fault.PassphraseFault.TheVariants.{TooLong}
-use Rattle.luks_key_slots.specs.declared.fault.VolumeFault.TheVariants.{Passphrase}
+use Rattle.luks_open.specs.declared.fault.PassphraseFault.TheVariants.{TooLong}
+use Rattle.luks_open.specs.declared.fault.VolumeFault.TheVariants.{Passphrase}
 use Rattle.luks_access.proofs.OpeningLemmas.{ends_opening}
-use Rattle.luks_runs.proofs.OpeningLemmas.{opens_as, opens_unfound, opens_unread}
-use Rattle.luks_runs.proofs.VolumeLemmas.{reads_on}
-use Rattle.luks_runs.specs.KeyFile.{max_key_file_len}
-use Rattle.luks_argon2_slots.proofs.DerivingLemmas.{All-CanDerive}
-use Rattle.luks_key_slots.proofs.StopLemmas.{needs_limits}
+use Rattle.luks_open.proofs.OpeningLemmas.{opens_as, opens_unfound, opens_unread}
+use Rattle.luks_open.proofs.VolumeLemmas.{reads_on}
+use Rattle.luks_open.specs.KeyFile.{max_key_file_len}
+use Rattle.luks_open.proofs.DerivingLemmas.{All-CanDerive}
+use Rattle.luks_open.proofs.StopLemmas.{needs_limits}
 use Rattle.luks_access.specs.Opens.{allowed_by}
 use Rattle.luks_access.proofs.volume.Volume.open_from.Goals as goal
 

@@ -4,11 +4,11 @@ use Rattle.luks_io.proofs.ErrorLemmas.{given_error}
 use Rattle.luks_io.specs.Counts.{MemSourceModel}
 use Rattle.luks_request.specs.Request.{volume_request}
 use Rattle.luks_runs.proofs.RunLemmas.{never_failed}
-use Rattle.luks_runs.proofs.VolumeLemmas.{message_says}
+use Rattle.luks_runs.proofs.OutcomeLemmas.{message_says}
 use Rattle.luks_runs.specs.Run.{is_run_read_failure, result_message}
-use Rattle.luks_runs.specs.Allowed.{pbkdf2_alone}
-use Rattle.luks_runs.specs.Volume.{payload_outcome}
-use Rattle.luks_runs.specs.declared.location.HeaderLocation.TheVariants.{Attached, Detached}
+use Rattle.luks_open.specs.Allowed.{pbkdf2_alone}
+use Rattle.luks_runs.specs.VolumeOutcome.{payload_outcome}
+use Rattle.luks_open.specs.declared.location.HeaderLocation.TheVariants.{Attached, Detached}
 use Rattle.luks_commands.proofs.OpenedRuns.{allows_payload, calls_without_payload}
 use Rattle.luks_commands.proofs.OpenedRuns.{consumed_no_payload, counts_forwarded}
 use Rattle.luks_commands.proofs.OpenedRuns.{detached_runs_forwarded, loaded_from_none}

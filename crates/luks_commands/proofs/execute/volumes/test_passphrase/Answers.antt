@@ -1,10 +1,10 @@
 use Rattle.std.proofs.Common.{inl}
 use Rattle.luks_io.proofs.ErrorLemmas.{given_error}
-use Rattle.luks_runs.specs.Volume.{slot_outcome}
-use Rattle.luks_runs.proofs.VolumeLemmas.{message_says}
+use Rattle.luks_runs.specs.VolumeOutcome.{slot_outcome}
+use Rattle.luks_runs.proofs.OutcomeLemmas.{message_says}
 use Rattle.luks_runs.specs.Run.{AnyPromptness, ConsumedNothing, result_message}
 use Rattle.luks_commands.proofs.OpenedRuns.{no_write_unopened, runs_at, runs_slot, slot_message}
-use Rattle.luks_runs.proofs.OpeningLemmas.{slot_consumes_loaded}
+use Rattle.luks_runs.proofs.OutcomeLemmas.{slot_consumes_loaded}
 use Rattle.luks_commands.proofs.execute.volumes.test_passphrase.Goals as goal
 
 pub returns-in_err-unlocked-clause-run : goal.returns-in_err-unlocked-clause-run

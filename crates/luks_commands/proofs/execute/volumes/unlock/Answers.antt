@@ -1,17 +1,18 @@
 use Rattle.std.proofs.Common.{◌∙◌, ◌≤◌, Err, Ok, Some, subst, ap, arith, false, inl, inr, length, refl, true}
-use Rattle.luks_key_slots.specs.declared.fault.VolumeFault.TheVariants.{Passphrase}
+use Rattle.luks_open.specs.declared.fault.VolumeFault.TheVariants.{Passphrase}
 use Rattle.luks_io.proofs.ErrorLemmas.{given_error}
-use Rattle.luks_runs.proofs.OpeningLemmas.{counts_given}
-use Rattle.luks_runs.proofs.VolumeLemmas.{message_says, reads_on, there_is_volume}
-use Rattle.luks_runs.specs.KeyFile.{max_key_file_len}
-use Rattle.luks_runs.specs.Volume.{CountsTrials, TriesSlots, described}
-use Rattle.luks_runs.specs.declared.unlocked.UnlockedVolume.{UnlockedVolume}
-use Rattle.luks_runs.specs.Allowed.{pbkdf2_alone}
+use Rattle.luks_open.proofs.OpeningLemmas.{counts_given}
+use Rattle.luks_runs.proofs.OutcomeLemmas.{message_says}
+use Rattle.luks_open.proofs.VolumeLemmas.{reads_on, there_is_volume}
+use Rattle.luks_open.specs.KeyFile.{max_key_file_len}
+use Rattle.luks_open.specs.Volume.{CountsTrials, TriesSlots, described}
+use Rattle.luks_open.specs.declared.unlocked.UnlockedVolume.{UnlockedVolume}
+use Rattle.luks_open.specs.Allowed.{pbkdf2_alone}
 use Rattle.luks_commands.proofs.OpenedRuns.{reads_of_image}
 use Rattle.luks_commands.proofs.VolumeRuns.{counts_opened, counts_unopened, early_unfound, locked_tried}
 use Rattle.luks_commands.proofs.VolumeRuns.{locked_unfound, locked_unread, unlocked_tried}
-use Rattle.luks_key_slots.proofs.CallerLemmas.{All-IsPbkdf2}
-use Rattle.luks_key_slots.proofs.StopLemmas.{never_stops}
+use Rattle.luks_open.proofs.CallerLemmas.{All-IsPbkdf2}
+use Rattle.luks_open.proofs.StopLemmas.{never_stops}
 use Rattle.luks_commands.proofs.execute.volumes.unlock.Goals as goal
 
 -- no key slot needs Argon2

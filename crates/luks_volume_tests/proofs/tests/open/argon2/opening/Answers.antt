@@ -1,5 +1,5 @@
 use Rattle.std.proofs.Common.{◌∙◌, sym, arith}
-use Rattle.luks_argon2_slots.proofs.DerivingLemmas.{All-CanDerive}
+use Rattle.luks_open.proofs.DerivingLemmas.{All-CanDerive}
 use Rattle.luks_volume_tests.proofs.tests.open.argon2.opening.Goals as goal
 
 pub open_by-requires-clause-segment : goal.open_by-requires-clause-segment

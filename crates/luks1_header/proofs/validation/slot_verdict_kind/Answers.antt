@@ -1,8 +1,0 @@
-use Rattle.std.proofs.Common.{◌∙◌, sym}
-use Rattle.luks1_header.proofs.ValidationLemmas.{usable_verdict}
-use Rattle.luks1_header.proofs.validation.slot_verdict_kind.Goals as goal
-
-pub returns-in-None : goal.returns-in-None
-returns-in-None c =
-    sym (usable_verdict c.args.header.now c.args.limit c.args.slot.now (sym c.disabled.ensures ∙ c.if-disabled.false)
-    (sym c.reason.ensures ∙ c.in-None.is))

@@ -1,3 +1,0 @@
-pub mod Header1
-pub mod Segment1
-pub mod Slot1

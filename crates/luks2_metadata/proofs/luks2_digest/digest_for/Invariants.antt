@@ -1,0 +1,7 @@
+use Rattle.std.proofs.Common.{◌≡◌, None}
+use Rattle.luks2_json.specs.Numbered.{lowest}
+use Rattle.luks2_metadata.specs.Digest2.{own_digest_at}
+use Rattle.luks2_metadata.proofs.luks2_digest.digest_for.Given as goal
+
+abbrev pub invariant-loop-digest : goal.invariant-loop-digest
+invariant-loop-digest l = lowest (own_digest_at l.metadata l.number) l.digest ≡ None

@@ -1,0 +1,7 @@
+pub mod AreaLemmas
+pub mod FieldLemmas
+pub mod MadeLemmas
+pub mod RangeLemmas
+pub mod SectorLemmas
+pub mod TableLemmas
+pub mod ValidationLemmas

@@ -1,0 +1,13 @@
+pub mod Area
+pub mod Derivation
+pub mod Fields
+pub mod Header1
+pub mod Rule
+pub mod SectorSize
+pub mod Segment
+pub mod Segment1
+pub mod SegmentFault
+pub mod SkipReason
+pub mod Slot
+pub mod Slot1
+pub mod Table

@@ -1,0 +1,47 @@
+-- Where the payload of LUKS1 is, or why it cannot be read.
+use Rattle.std.specs.Prelude.{◌*◌, ◌&&◌, ℕ, not, nat_lt, Bool, false, List}
+use Rattle.std.specs.Prelude.{[], ◌∷◌, Option, Some, None, Result, is_none}
+use Rattle.std.specs.Option.{option_map_or}
+use Rattle.luks_cipher.specs.Sector.{is_mode_key_length}
+use Rattle.luks_cipher.specs.declared.mode.Mode.{Mode}
+use Rattle.luks_format.specs.Segment.{refused_or, segment_from}
+use Rattle.luks_format.specs.Table.{first_match}
+use Rattle.luks_format.specs.declared.refusal.SegmentFault.{SegmentFault}
+use Rattle.luks_format.specs.declared.refusal.SegmentFault.TheVariants.{Encryption, Hash, KeyBytes, Offset}
+use Rattle.luks_format.specs.declared.sector_size.SectorSize.TheVariants.{B512}
+use Rattle.luks_format.specs.declared.segment.Segment.{Segment}
+use Rattle.luks_format.specs.declared.segment.SegmentParts.{SegmentParts}
+use Rattle.luks_format.specs.Header1.{header1_len}
+use Rattle.luks_format.specs.Slot1.{hash1_of, mode1_of}
+use Rattle.luks_format.specs.declared.header.Header1.{Header1}
+
+-- the mode is known, and the length of the volume key is one of this mode
+abbrev pub is_key_length1 : Option Mode → ℕ → Bool
+is_key_length1 known n = option_map_or (λ mode. is_mode_key_length mode n) known false
+
+-- the payload starts inside an attached header. (It starts at a multiple of 512 bytes.)
+unfoldable pub overlaps_header1 : Header1 → Bool
+overlaps_header1 header = not header.detached && nat_lt (512 * header.payload_offset) header1_len
+
+-- the possible faults of the segment
+unfoldable pub segment_faults1 : Header1 → List (Bool × SegmentFault)
+segment_faults1 header =
+    (is_none (mode1_of header), Encryption)
+    ∷ (is_none (hash1_of header), Hash)
+    ∷ (not (is_key_length1 (mode1_of header) header.key_bytes), KeyBytes)
+    ∷ (overlaps_header1 header, Offset)
+    ∷ []
+
+-- the parts of the segment: its sectors of 512 bytes are numbered from 0, and it goes to the image's end
+abbrev pub segment_parts1_of : Header1 → SegmentParts
+segment_parts1_of header = record {
+  offset = Some (512 * header.payload_offset);
+  size = Some None;
+  iv_tweak = Some 0;
+  sector_size = Some B512;
+  mode = mode1_of header;
+}
+
+-- the segment of a header, or its first fault
+unfoldable pub segment1_of : Header1 → Result Segment SegmentFault
+segment1_of header = refused_or (first_match (segment_faults1 header)) (segment_from (segment_parts1_of header))

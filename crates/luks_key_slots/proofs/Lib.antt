@@ -1,4 +1,0 @@
-pub mod CallerLemmas
-pub mod MaterialLemmas
-pub mod StopLemmas
-mod TrialLemmas

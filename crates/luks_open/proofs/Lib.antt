@@ -1,0 +1,8 @@
+pub mod CallerLemmas
+pub mod DerivingLemmas
+pub mod MaterialLemmas
+pub mod OpeningLemmas
+pub mod PrefixLemmas
+pub mod StopLemmas
+mod TrialLemmas
+pub mod VolumeLemmas

@@ -1,0 +1,12 @@
+pub mod Allowed
+pub mod Candidate
+pub mod Deriving
+pub mod Fault
+pub mod KeyFile
+pub mod Location
+pub mod Opening
+pub mod Skipped
+pub mod Trial
+pub mod Volume
+pub mod VolumeKey
+pub mod WithArgon2

@@ -1,4 +1,0 @@
-pub mod MadeLemmas
-pub mod RangeLemmas
-pub mod SectorLemmas
-pub mod TableLemmas
