@@ -11,7 +11,7 @@ NUMBERS = {"u8": ("uint8_t", 1), "u32": ("uint32_t", 4), "u64": ("uint64_t", 8)}
 # the constants of luksrd.h that have another name than the message, or are in another crate
 NAMES = {"Done": "OK", "Cut": "TRUNCATED", "_": "OUT_OF_MEMORY", "Tail": "ENDS_INSIDE_SECTOR",
          "CutBeforePayload": "ENDS_BEFORE_PAYLOAD", "Short": "ENDS_BEFORE_SEGMENT"}
-ELSEWHERE = {"LUKSRD_HEADER_BYTES": ("luks_header_area/src/area.rt", "MAX_LEN"),
+ELSEWHERE = {"LUKSRD_HEADER_BYTES": ("luks_format/src/area.rt", "MAX_LEN"),
              "LUKSRD_PASSPHRASE_BYTES": ("luks_access/src/volume.rt", "MAX_PASSPHRASE_LEN"),
              "LUKSRD_SECTOR_BYTES": ("luks_access/src/range.rt", "MAX_SECTOR_LEN")}
 # the structs whose contents only the library knows, the crates that declare the structs in them,

@@ -1,4 +1,4 @@
-//! Tests of the crates on volumes, through their public calls: `luks_access`, `luks_key_slots`,
+//! Tests of the crates on volumes, through their public calls: `luks_access`, `luks_open`,
 //! `luks_payload` and `luks_seal`.
 //!
 //! They are in a crate of their own, so that the crates below are not proved again with them.
