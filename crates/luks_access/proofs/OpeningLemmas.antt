@@ -15,6 +15,7 @@ use Rattle.luks_report.specs.Faults.{message_at_end}
 use Rattle.luks_report.specs.declared.message.Message.TheVariants.{Done}
 use Rattle.luks_open.specs.Allowed.{pbkdf2_alone}
 use Rattle.luks_runs.specs.Run.{Outcome}
+use Rattle.luks_open.proofs.SameOrderLemmas.{same_opening}
 use Rattle.luks_open.specs.Location.{reader_for}
 use Rattle.luks_open.specs.declared.location.HeaderLocation.{HeaderLocation}
 use Rattle.luks_open.specs.declared.location.HeaderLocation.TheVariants.{Attached, Detached}
@@ -111,6 +112,7 @@ volume_opened : (options : Options) (image pass : List ℕ) (v : UnlockedVolume)
     → OpensVolume options image pass v
 volume_opened options image pass v opens = record {
   opens = opens;
+  as_luks_cat = same_opening (allowed_by options) (reader_for options.location) image pass;
   cats = λ other. cat_by options image pass other v opens;
   cats_by_key = cat_by_key options.location v;
   honest = λ plain attached honest.
@@ -128,6 +130,7 @@ volume_refused : (options : Options) (image pass : List ℕ) (fault : VolumeFaul
     → RefusesVolume options image pass fault
 volume_refused options image pass fault refuses memory argon2 only_long = record {
   refuses = refuses;
+  as_luks_cat = same_opening (allowed_by options) (reader_for options.location) image pass;
   memory = memory;
   argon2 = argon2;
   only_long = only_long;

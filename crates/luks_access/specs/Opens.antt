@@ -10,7 +10,7 @@ use Rattle.luks_open.specs.declared.fault.VolumeFault.TheVariants as V
 use Rattle.luks_report.specs.Faults.{message_at_end}
 use Rattle.luks_open.specs.declared.opening.Opened.{Opened}
 use Rattle.luks_open.specs.declared.allowed.SlotChoice.{SlotChoice}
-use Rattle.luks_open.specs.Allowed.{pbkdf2_alone}
+use Rattle.luks_open.specs.Allowed.{NeedsNoArgon2, pbkdf2_alone}
 use Rattle.luks_open.specs.declared.allowed.AllowedSlots.{AllowedSlots}
 use Rattle.luks_runs.specs.Run.{Outcome}
 use Rattle.luks_open.specs.Location.{detached_header_of, reader_for}
@@ -78,12 +78,19 @@ CatsByKey location v = (slots : SlotChoice) (header image pass : List ℕ) (open
     → HasPlaintext (cat_outcome_of location (pbkdf2_alone slots) header image pass) v
     (payload_image_of location header image)
 
+-- if no key slot of the header needs Argon2, opening ends as for every command that may try the same key slots
+abbrev pub OpensAsLuksCat : Options → List ℕ → List ℕ → Type 0
+OpensAsLuksCat options header pass = IfOk (reader_for options.location header) NeedsNoArgon2
+    → opening_with options header pass
+    ≡ volume_opening_by (reader_for options.location) (pbkdf2_alone options.slots) header pass
+
 -- a volume was opened (`opens`): what `luksCat` would write if it tried the same key slots is its plaintext (`cats`), and
 -- so is what `luksCat` writes of each volume with the same segment and volume key, whichever key slot was opened here
 -- (`cats_by_key`). If it was sealed honestly, with an attached header, that is the plaintext that was sealed, and it is
 -- whole (`honest`)
 pub record OpensVolume (options : Options) (header pass : List ℕ) (v : UnlockedVolume) : Type 0 where
   pub opens : Opens options header pass v
+  pub as_luks_cat : OpensAsLuksCat options header pass
   pub cats : (image : List ℕ) → HasPlaintext (cat_outcome_of options.location (allowed_by options) header image pass) v
       (payload_image_of options.location header image)
   pub cats_by_key : CatsByKey options.location v
@@ -96,6 +103,7 @@ pub record OpensVolume (options : Options) (header pass : List ℕ) (v : Unlocke
 -- (`argon2`)
 pub record RefusesVolume (options : Options) (header pass : List ℕ) (fault : VolumeFault) : Type 0 where
   pub refuses : aborts_opening fault ≡ false → Refuses options header pass fault
+  pub as_luks_cat : OpensAsLuksCat options header pass
   pub memory : fault ≡ V.Slots Memory → CanBeTried (opening_with options header pass).result
   pub argon2 : (slot memory : ℕ) → fault ≡ V.Argon2Memory slot memory
       → (is_some options.argon2 ≡ true) × CanBeTried (opening_with options header pass).result
