@@ -41,6 +41,7 @@ use Rattle.luks_open.specs.declared.entry.Entry.{Entry}
 use Rattle.luks_open.specs.Opening.{key_material_end, order_within}
 use Rattle.luks_open.specs.declared.fault.OpenFault.TheVariants.{NoKey}
 use Rattle.luks_open.specs.declared.opening.Opened.{Opened}
+use Rattle.luks_open.proofs.SameOrderLemmas.{usable_with_argon2}
 use Rattle.luks_open.proofs.CallerLemmas.{All-order, IsOf, key_areas_before_payload, opened_or}
 use Rattle.luks_payload.proofs.SectorLemmas.{one_more_fits}
 use Rattle.luks_payload.specs.Plain.{ending_of, ending_of_len, plain_of, sector_len, sector_plaintext, unit_number}
@@ -282,14 +283,16 @@ module _ (slots : AllowedSlots) (image passphrase plain : List ℕ)
       )
 
 -- a sealed volume is honest for a passphrase of the named key slot, which is no longer than a key file may be, if there
--- is no limit on iterations, and Argon2 is not used
+-- is no limit on iterations
 pub named_is_honest : (slots : AllowedSlots) (image passphrase plain key : List ℕ) (passphrases : List (ℕ × List ℕ))
     (number : ℕ) → Sealed image passphrases key plain → Contains passphrases (number, passphrase)
-    → length passphrase ≤ max_key_file_len → slots.named ≡ Some number → slots.limits ≡ without_argon2 None
+    → length passphrase ≤ max_key_file_len → slots.named ≡ Some number
+    → slots.limits.max_iterations ≡ None
     → OpensHonest slots image passphrase plain
 unfolding order_within
 named_is_honest slots image passphrase plain key passphrases number sealed is short named unlimited =
     let seals = sealed_with image key plain passphrase passphrases number sealed is in
+    let usable = usable_with_argon2 sealed.header slots.limits number seals.slot (rw unlimited seals.usable) in
     let tried : Entry = record { number = number; slot = seals.slot } in
     record {
       passphrases = passphrases;
@@ -299,7 +302,7 @@ named_is_honest slots image passphrase plain key passphrases number sealed is sh
       is_passphrase = is;
       short = short;
       order = record { entries = tried ∷ []; skipped = [] };
-      is_order = rw (named, unlimited, seals.usable) refl;
+      is_order = rw (named, usable) refl;
       first = record {
         before = [];
         entry = tried;
