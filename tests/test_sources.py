@@ -62,6 +62,24 @@ def test_counts_of_work():
     assert (made, used_otherwise) == (wanted, [])
 
 
+def test_keys_by_argon2():
+    """Nor does any contract see what a body derives by Argon2 for itself, without the limits of the options, or how much
+    memory it holds at once. So this is done in these places only."""
+    found = {}
+    for path in sorted(TOP.glob("crates/*/src/**/*.rt")):
+        crate, name = path.relative_to(TOP / "crates").parts[0], str(path.relative_to(TOP / "crates"))
+        if re.fullmatch(r"luks_argon2|luksrd_tools|\w+_tests", crate):
+            continue
+        code = re.sub(r"//.*", "", path.read_text())
+        for call in re.findall(r"\b(?:WithArgon2|Memory)::new\(|(?<!fn )(?<![\[.\w])derive\(", code):
+            found.setdefault(name, []).append(call)
+    assert found == {
+        "luks_access/src/volume.rt": ["WithArgon2::new("],  # the opening of a volume by the library
+        "luks_open/src/held.rt": ["Memory::new("],
+        "luks_open/src/with_argon2.rt": ["derive("],
+    }
+
+
 # The first match in each file counts: in CHANGELOG.md that is the newest release.
 VERSIONS = {
     "CHANGELOG.md": r"^## ([0-9].*) \(\d{4}-\d\d-\d\d\)$",
