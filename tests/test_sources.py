@@ -87,6 +87,7 @@ VERSIONS = {
     "crates/luks_c/src/lib.rt": r"^const VERSION: u32 = 0x00(.*);$",
     "crates/luks_audit/src/program.rt": r'^pub const VERSION: &str = "(.*)";$',
     "crates/luks_audit/specs/Table.antt": r'^program_version = codes "(.*)"$',
+    "crates/luksrd_audit/stdout": r'"program_version":"(.*)"',
     "python/luksrd.py": r'^__version__ = "(.*)"$',
     "python/pyproject.toml": r'^version = "(.*)"$',
     **{f"docs/{page.name}": r"^\.Os luksrd (.*)$" for page in TOP.glob("docs/*.[0-9]")},
