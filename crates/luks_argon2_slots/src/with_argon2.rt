@@ -1,6 +1,7 @@
 //! PBKDF2 and Argon2 together.
 
-ghost use Rattle.std.specs.Prelude.{◌≡◌, ◌+◌, ◌^◌, ◌<◌, ◌≤◌, ℕ, IfOk, OnErr, OnOk, length};
+ghost use Rattle.std.specs.Prelude.{◌≡◌, ◌+◌, ◌^◌, ◌<◌, ◌≤◌, ℕ, IfErr, IfOk, OnErr, OnOk};
+ghost use Rattle.std.specs.Prelude.{length};
 ghost use Rattle.luks_argon2.specs.Argon2.{argon2};
 ghost use Rattle.luks_argon2.specs.Parameters.{filled_blocks};
 ghost use Rattle.luks_kdf.specs.Pbkdf2.{capped};
@@ -11,8 +12,7 @@ use crate::held::{HeldMemory, memory_for};
 use luks_argon2::{Parameters, derive};
 use luks_header::derivation::{Argon2Parameters, Derivation};
 use luks_kdf::Work;
-use luks_key_slots::derive::{Derive, pbkdf2_key};
-use luks_key_slots::fault::VolumeFault;
+use luks_key_slots::derive::{Derive, MemoryRefused, pbkdf2_key};
 use luks_key_slots::key::Key;
 use std::alloc::Global;
 use std::marker::Model;
@@ -28,13 +28,6 @@ pub struct WithArgon2 {
     alloc: Global,
     held: Option<HeldMemory>,
     blocks: u128,
-}
-
-/// The memory for Argon2 was refused.
-#[derive(Clone, Copy, PartialEq, Eq, Debug)]
-pub struct MemoryRefused {
-    /// How much was asked for, in KiB.
-    pub memory_kib: u32,
 }
 
 impl Model for WithArgon2 {
@@ -81,6 +74,7 @@ impl WithArgon2 {
         ensures filled { OnOk result (self.new ≡ capped (self.old
             + filled_blocks parameters.passes parameters.memory_kib parameters.lanes)) }
         ensures nothing { OnErr result (self.new ≡ self.old) }
+        ensures refused { IfErr result (λ refused. refused.memory_kib ≡ parameters.memory_kib) }
     {
         let checked = parameters_of(parameters);
         let Ok(held) = memory_for(self.alloc, self.held.take(), checked) else {
@@ -126,10 +120,6 @@ fn parameters_of(parameters: Argon2Parameters) -> Parameters
 }
 
 impl Derive for WithArgon2 {
-    type Fault = MemoryRefused;
-
-    ghost may_fail = { Unit {0} };
-
     ghost derives = { λ _ how pass salt. CanDerive how pass salt };
 
     ghost blocks = { λ w. w };
@@ -150,9 +140,5 @@ impl Derive for WithArgon2 {
             }
             Derivation::Pbkdf2(_, _) => Ok(pbkdf2_key(how, pass, salt, len, work)),
         }
-    }
-
-    fn volume_fault(slot: u8, fault: MemoryRefused) -> VolumeFault {
-        VolumeFault::Argon2Memory(slot, fault.memory_kib)
     }
 }

@@ -1,3 +1,4 @@
 pub mod CallerLemmas
 pub mod MaterialLemmas
+pub mod StopLemmas
 mod TrialLemmas

@@ -1,10 +1,11 @@
 -- Entries that are tried one after the other: which opens, and what is counted.
 use Rattle.std.proofs.Common.{◌≡◌, ◌∙◌, ℕ, ◌+◌, ◌<◌, ◌≤◌, List, [], ◌∷◌, ◌++◌, length, take, drop, get_or, Option, Some}
-use Rattle.std.proofs.Common.{None, sym, ap, refl, arith}
+use Rattle.std.proofs.Common.{None, sym, subst, ap, refl, arith}
 use Rattle.std.specs.Prelude.{if◌then◌else◌, is_some, sum_by}
 use Rattle.std.proofs.lemmas.List.{drop_all, get_or_default, take_more}
 use Rattle.std.proofs.lemmas.List.Sums.{sum_by-append, sum_by-cons}
 use Rattle.luks_kdf.specs.Pbkdf2.{capped}
+use Rattle.luks_key_slots.specs.Deriving.{NeedsMemory}
 use Rattle.luks_key_slots.specs.Opening.{StopsAfter, first_opening, slot_key, tried_of}
 use Rattle.luks_key_slots.specs.declared.entry.Entry.{Entry}
 use Rattle.luks_key_slots.proofs.CallerLemmas.{from_entry, opened_or}
@@ -92,16 +93,18 @@ module _ (entries : List Entry) (image pass : List ℕ) (i : ℕ)
           ∙ unopened_more (take i entries) entry image pass before.none unopened;
     }
 
-    -- it was not tried
-    pub stopped : StopsAfter entries image pass i entry.number
-    stopped = record {
+    -- it was not tried, for want of this much memory
+    pub stopped : (memory_kib : ℕ) → NeedsMemory entry.slot.parts.derivation memory_kib
+        → StopsAfter entries image pass i entry.number memory_kib
+    stopped memory_kib needs = record {
       there = there;
-      slot = λ other. number_of other;
+      slot = λ other. ap (λ (e : Entry). e.number) (same other);
       none = before.none;
+      needs = λ other. subst (λ (e : Entry). NeedsMemory e.slot.parts.derivation memory_kib) (sym (same other)) needs;
     }
       where
-        number_of : (other : Entry) → (get_or entries i other).number ≡ entry.number
-        number_of other = ap (λ (e : Entry). e.number) (get_or_default entries i other entry there ∙ sym is)
+        same : (other : Entry) → get_or entries i other ≡ entry
+        same other = get_or_default entries i other entry there ∙ sym is
 
     module _ (cost : Entry → ℕ) (start now new : ℕ) (counted : CountedBefore cost entries image pass i start now)
         (is_new : capped new ≡ capped (now + cost entry)) where

@@ -1,5 +1,5 @@
 -- The functions that derive keys from passphrases, and what they cost.
-use Rattle.std.specs.Prelude.{ℕ, ◌*◌, ◌^◌, ◌<◌, ◌≤◌, Option, Some, None}
+use Rattle.std.specs.Prelude.{◌≡◌, ℕ, ◌*◌, ◌^◌, ◌<◌, ◌≤◌, Option, Some, None}
 use Rattle.std.specs.Int.{div_ceil}
 use Rattle.luks_argon2.specs.Parameters.{filled_blocks}
 use Rattle.luks_kdf.specs.Hash.{digest_len}
@@ -27,3 +27,8 @@ evaluations_by (Argon2 parameters) bytes = 0
 abbrev pub blocks_by : Derivation → ℕ
 blocks_by (Pbkdf2 hash iterations) = 0
 blocks_by (Argon2 parameters) = filled_blocks parameters.passes parameters.memory_kib parameters.lanes
+
+-- Argon2 derives the key, and needs this much memory for that, in KiB
+abbrev pub NeedsMemory : Derivation → ℕ → Type 0
+NeedsMemory (Pbkdf2 hash iterations) memory_kib = ⊥
+NeedsMemory (Argon2 parameters) memory_kib = memory_kib ≡ parameters.memory_kib

@@ -5,7 +5,7 @@ use Rattle.std.specs.Prelude.{◌++◌}
 use Rattle.std.specs.Option.{option_or}
 use Rattle.luks_verdict.specs.declared.refusal.SkipReason.{SkipReason}
 use Rattle.luks_key_slots.specs.Candidate.{candidate_of, matches_digest}
-use Rattle.luks_key_slots.specs.Deriving.{blocks_by, evaluations, evaluations_by}
+use Rattle.luks_key_slots.specs.Deriving.{NeedsMemory, blocks_by, evaluations, evaluations_by}
 use Rattle.luks_key_slots.specs.declared.entry.Entry.{Entry}
 use Rattle.luks_key_slots.specs.declared.fault.OpenFault.{OpenFault}
 use Rattle.luks_key_slots.specs.declared.fault.OpenFault.TheVariants.{NoKey, NoSuchSlot, Disabled, NamedSkipped}
@@ -126,8 +126,9 @@ work_of order image pass = sum_by evaluations_of (tried_of order.entries image p
 abbrev pub blocks_filled : OrderModel → List ℕ → List ℕ → ℕ
 blocks_filled order image pass = sum_by blocks_of (tried_of order.entries image pass)
 
--- the key slot of this number follows the first n, none of which opens
-pub record StopsAfter (entries : List Entry) (image pass : List ℕ) (n number : ℕ) : Type 0 where
+-- the key slot of this number follows the first n, none of which opens, and Argon2 needs this much memory for its key
+pub record StopsAfter (entries : List Entry) (image pass : List ℕ) (n number memory_kib : ℕ) : Type 0 where
   pub there : n < length entries
   pub slot : (entry : Entry) → (get_or entries n entry).number ≡ number
   pub none : first_opening (take n entries) image pass ≡ None
+  pub needs : (entry : Entry) → NeedsMemory (get_or entries n entry).slot.parts.derivation memory_kib

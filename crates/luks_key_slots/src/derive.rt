@@ -1,24 +1,24 @@
 //! Deriving the key of a slot's key material from a passphrase, by the functions that a program has.
 
-ghost use Rattle.std.specs.Prelude.{◌≡◌, ◌+◌, ◌≤◌, ℕ, List, IfOk, OnErr, OnOk, Some, length};
+ghost use Rattle.std.specs.Prelude.{◌≡◌, ◌+◌, ◌≤◌, ℕ, List, IfErr, IfOk, OnErr, OnOk, Some, length};
 ghost use Rattle.luks_kdf.specs.Pbkdf2.{capped};
 ghost use Rattle.luks_verdict.specs.declared.derivation.Derivation.{Derivation};
 ghost use Rattle.luks_key_slots.specs.Candidate.{derived_by};
-ghost use Rattle.luks_key_slots.specs.Deriving.{IsPbkdf2, blocks_by, evaluations_by};
+ghost use Rattle.luks_key_slots.specs.Deriving.{IsPbkdf2, NeedsMemory, blocks_by, evaluations_by};
 
-use crate::fault::VolumeFault;
 use crate::key::Key;
 use luks_header::derivation::Derivation;
 use luks_kdf::Work;
 
+/// Memory that Argon2 needs was refused.
+#[derive(Clone, Copy, PartialEq, Eq, Debug)]
+pub struct MemoryRefused {
+    /// How much was asked for, in KiB.
+    pub memory_kib: u32,
+}
+
 /// Derives the keys of key material.
 pub trait Derive {
-    /// Why a key is not derived.
-    type Fault;
-
-    /// Whether there can be such a fault.
-    ghost may_fail: { Type 0 };
-
     /// Whether it derives a key in this way, from this passphrase and salt.
     ghost derives: { Self → Derivation → List ℕ → List ℕ → Type 0 };
 
@@ -27,6 +27,10 @@ pub trait Derive {
 
     /// Derives the key of `len` bytes. The count of work is raised by the evaluations of HMAC, that
     /// of blocks by those that Argon2 fills.
+    ///
+    /// # Errors
+    ///
+    /// The memory that Argon2 needs was refused.
     fn derive(
         &mut self,
         how: Derivation,
@@ -34,7 +38,7 @@ pub trait Derive {
         salt: &[u8],
         len: usize,
         work: &mut Work,
-    ) -> Result<Key, Self::Fault>
+    ) -> Result<Key, MemoryRefused>
         requires derives { derives self.old how pass.now salt.now }
         requires some { 1 ≤ len }
         requires capacity { len ≤ 64 }
@@ -45,28 +49,17 @@ pub trait Derive {
             (capped (blocks self.new) ≡ capped (blocks self.old + blocks_by how)) }
         ensures nothing { OnErr result
             ((work.new ≡ work.old) × (capped (blocks self.new) ≡ capped (blocks self.old))) }
+        ensures refused { IfErr result (λ refused. NeedsMemory how refused.memory_kib) }
         ensures still { (other : Derivation) → (password other_salt : List ℕ)
             → derives self.old other password other_salt
             → derives self.new other password other_salt };
-
-    /// The fault of opening a volume if the key of this slot is not derived: its memory was refused.
-    fn volume_fault(slot: u8, fault: Self::Fault) -> VolumeFault
-        ensures memory { (memory : ℕ) × (result ≡ VolumeFault.Argon2Memory slot memory) }
-        ensures may_fail { may_fail };
 }
-
-/// What never is.
-pub enum Never {}
 
 /// PBKDF2, without Argon2. It takes no memory, so it never fails.
 #[derive(Drop)]
 pub struct Pbkdf2Alone;
 
 impl Derive for Pbkdf2Alone {
-    type Fault = Never;
-
-    ghost may_fail = { ⊥ };
-
     ghost derives = { λ _ how _ _. IsPbkdf2 how };
 
     ghost blocks = { λ _. 0 };
@@ -78,12 +71,8 @@ impl Derive for Pbkdf2Alone {
         salt: &[u8],
         len: usize,
         work: &mut Work,
-    ) -> Result<Key, Never> {
+    ) -> Result<Key, MemoryRefused> {
         Ok(pbkdf2_key(how, pass, salt, len, work))
-    }
-
-    fn volume_fault(_slot: u8, fault: Never) -> VolumeFault {
-        match fault {}
     }
 }
 

@@ -9,13 +9,14 @@ ghost use Rattle.luks_verdict.specs.declared.derivation.Derivation.{Derivation};
 ghost use Rattle.luks_verdict.specs.declared.derivation.Limits.{Limits};
 ghost use Rattle.luks_verdict.specs.declared.segment.Segment.{Segment};
 ghost use Rattle.luks_key_slots.specs.Candidate.{candidate_by};
+ghost use Rattle.luks_key_slots.specs.Deriving.{NeedsMemory};
 ghost use Rattle.luks_key_slots.specs.Opening.{blocks_filled, blocks_of, evaluations_of};
 ghost use Rattle.luks_key_slots.specs.Opening.{StopsAfter, first_opening, slot_key};
 ghost use Rattle.luks_key_slots.specs.Opening.{opening_of, tried_of, work_of};
 ghost use Rattle.luks_key_slots.specs.Opening.{key_material_end, order_of, order_within};
 ghost use Rattle.luks_key_slots.specs.Trial.{IsTriable};
 
-use crate::derive::{Derive, Pbkdf2Alone};
+use crate::derive::{Derive, MemoryRefused, Pbkdf2Alone};
 use crate::digest::key_matches_digest;
 use crate::entry::Entry;
 use crate::fault::OpenFault;
@@ -36,13 +37,13 @@ pub struct Opened {
     pub key: Key,
 }
 
-/// A key slot whose key was not derived, and why.
-#[derive(Drop)]
-pub struct Underived<F> {
+/// A key slot whose key was not derived, since memory that Argon2 needs for it was refused.
+#[derive(Clone, Copy, PartialEq, Eq, Debug)]
+pub struct Underived {
     /// The number of the key slot.
     pub slot: u8,
-    /// Why its key was not derived.
-    pub fault: F,
+    /// How much memory was asked for, in KiB.
+    pub memory_kib: u32,
 }
 
 // The key that the material of a key slot holds, encrypted under `area_key`.
@@ -73,7 +74,7 @@ fn slot_key<D: Derive>(
     image: &[u8],
     pass: &[u8],
     work: &mut Work,
-) -> Result<Option<Key>, D::Fault>
+) -> Result<Option<Key>, MemoryRefused>
     requires triable { IsTriable (length image.now) entry.now.slot }
     requires derives { let parts = entry.now.slot.parts in
         D.derives derive.old parts.derivation pass.now parts.salt }
@@ -83,6 +84,8 @@ fn slot_key<D: Derive>(
         ≡ capped (D.blocks derive.old + blocks_of entry.now)) }
     ensures nothing { OnErr result ((work.new ≡ work.old)
         × (capped (D.blocks derive.new) ≡ capped (D.blocks derive.old))) }
+    ensures refused { IfErr result
+        (λ refused. NeedsMemory entry.now.slot.parts.derivation refused.memory_kib) }
     ensures still { (other : Derivation) → (password salt : List ℕ)
         → D.derives derive.old other password salt → D.derives derive.new other password salt }
 {
@@ -111,7 +114,7 @@ fn first_opening<D: Derive>(
     image: &[u8],
     pass: &[u8],
     work: &mut Work,
-) -> Result<Option<Opened>, Underived<D::Fault>>
+) -> Result<Option<Opened>, Underived>
     requires triable { All (λ entry. IsTriable (length image.now) entry.slot) entries.now }
     requires derives { All (λ entry. D.derives derive.old entry.slot.parts.derivation pass.now
         entry.slot.parts.salt) entries.now }
@@ -122,7 +125,7 @@ fn first_opening<D: Derive>(
     ensures filled { OnOk result (capped (D.blocks derive.new) ≡ capped (D.blocks derive.old
         + sum_by blocks_of (tried_of entries.now image.now pass.now))) }
     ensures stopped { IfErr result (λ stop. (tried : ℕ)
-        × StopsAfter entries.now image.now pass.now tried stop.slot
+        × StopsAfter entries.now image.now pass.now tried stop.slot stop.memory_kib
         × (work.new ≡ capped (work.old + sum_by evaluations_of (take tried entries.now)))
         × (capped (D.blocks derive.new)
         ≡ capped (D.blocks derive.old + sum_by blocks_of (take tried entries.now)))) }
@@ -139,10 +142,10 @@ fn first_opening<D: Derive>(
                 }));
             }
             Ok(None) => {}
-            Err(fault) => {
+            Err(refused) => {
                 return Err(Underived {
                     slot: entry.number,
-                    fault,
+                    memory_kib: refused.memory_kib,
                 });
             }
         }
@@ -161,8 +164,8 @@ fn first_opening<D: Derive>(
 ///
 /// # Errors
 ///
-/// The key of a slot was not derived. The slots before it were tried, and none opens; those after
-/// it were not.
+/// The key of a slot was not derived, since memory that Argon2 needs for it was refused. The slots
+/// before it were tried, and none opens; those after it were not.
 #[tactic(auto, unfolding(crate::specs::Opening::opening_of, crate::specs::Opening::work_of))]
 pub fn open_by<D: Derive>(
     derive: &mut D,
@@ -171,7 +174,7 @@ pub fn open_by<D: Derive>(
     order: &Order,
     pass: &[u8],
     work: &mut Work,
-) -> Result<Result<Opened, OpenFault>, Underived<D::Fault>>
+) -> Result<Result<Opened, OpenFault>, Underived>
     // The order is one of this header, whose segment is valid, and the area contains the key
     // material. Each key can be derived.
     requires order { (named : Option ℕ) × (limits : Limits)
@@ -190,7 +193,7 @@ pub fn open_by<D: Derive>(
         → IfOk result (λ opening. IfOk opening (λ opened.
         is_mode_key_length segment.mode (length opened.key) ≡ true)) }
     ensures stopped { IfErr result (λ stop. (tried : ℕ)
-        × StopsAfter order.now.entries area.now.bytes pass.now tried stop.slot
+        × StopsAfter order.now.entries area.now.bytes pass.now tried stop.slot stop.memory_kib
         × (work.new ≡ capped (work.old + sum_by evaluations_of (take tried order.now.entries)))
         × (capped (D.blocks derive.new) ≡ capped (D.blocks derive.old
         + sum_by blocks_of (take tried order.now.entries)))) }
@@ -222,6 +225,7 @@ pub fn open(
 {
     match open_by(&mut Pbkdf2Alone, header, area, order, pass, work) {
         Ok(opening) => opening,
-        Err(stop) => match stop.fault {},
+        // Memory is refused only to Argon2.
+        Err(_) => unreachable!(),
     }
 }

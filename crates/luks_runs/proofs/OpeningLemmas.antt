@@ -36,7 +36,7 @@ use Rattle.luks_runs.specs.Volume.{FindsNoVolume, OnOpened, volume_by}
 use Rattle.luks_runs.specs.Volume.{ConsumesLoaded, Volume, VolumeOpening, opening_found, opening_tried, slot_outcome}
 use Rattle.luks_runs.specs.Volume.{unlock_read_len, volume_opening_by, outcome_after, outcome_by, opening_after}
 use Rattle.luks_runs.specs.Volume.{CanBeTried, ConsumedUnless, ConsumesMaterial, CountsTrials, FoundIn, IsLoaded, OpeningMatches}
-use Rattle.luks_runs.specs.Volume.{RefusedOnlyIf, TriesSlots, UnlessRefused, described, opened_of, opened_result}
+use Rattle.luks_runs.specs.Volume.{IfRefused, TriesSlots, UnlessRefused, described, opened_of, opened_result}
 use Rattle.luks_runs.specs.declared.unlocked.UnlockedVolume.{UnlockedVolume}
 use Rattle.luks_key_slots.specs.declared.fault.PassphraseFault.{PassphraseFault}
 use Rattle.luks_runs.specs.declared.found.FoundVolume.{FoundVolume}
@@ -375,12 +375,12 @@ module _ (location : HeaderLocation) (slots : AllowedSlots) (image pass : List �
 -- ---- memory for Argon2
 
 -- what holds unless memory for Argon2 was refused does, if it cannot be refused
-pub counts_given : {T : Type 0} (result : Result T VolumeFault) (Counts : Type 0) → RefusedOnlyIf ⊥ result
-    → UnlessRefused result Counts → Counts
-counts_given (Err (Argon2Memory slot memory)) Counts may_fail counts = absurd may_fail
-counts_given (Ok _) Counts may_fail counts = counts
-counts_given (Err (HeaderNotRead _)) Counts may_fail counts = counts
-counts_given (Err (SegmentRefused _)) Counts may_fail counts = counts
-counts_given (Err (Passphrase _)) Counts may_fail counts = counts
-counts_given (Err KeyAreaCut) Counts may_fail counts = counts
-counts_given (Err (Slots _)) Counts may_fail counts = counts
+pub counts_given : {T : Type 0} (result : Result T VolumeFault) (Counts : Type 0) (Refused : ℕ → ℕ → Type 0)
+    → ((slot memory : ℕ) → Refused slot memory → ⊥) → IfRefused result Refused → UnlessRefused result Counts → Counts
+counts_given (Err (Argon2Memory slot memory)) Counts Refused never refused counts = absurd (never slot memory refused)
+counts_given (Ok _) Counts Refused never refused counts = counts
+counts_given (Err (HeaderNotRead _)) Counts Refused never refused counts = counts
+counts_given (Err (SegmentRefused _)) Counts Refused never refused counts = counts
+counts_given (Err (Passphrase _)) Counts Refused never refused counts = counts
+counts_given (Err KeyAreaCut) Counts Refused never refused counts = counts
+counts_given (Err (Slots _)) Counts Refused never refused counts = counts

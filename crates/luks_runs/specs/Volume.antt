@@ -313,22 +313,18 @@ abbrev pub UnlessRefused : {T : Type 0} → Result T VolumeFault → Type 0 → 
 UnlessRefused (Err (V.Argon2Memory slot memory)) P = Unit {0}
 UnlessRefused _ P = P
 
--- memory for Argon2 was refused only if it may be
-abbrev pub RefusedOnlyIf : {T : Type 0} → Type 0 → Result T VolumeFault → Type 0
-RefusedOnlyIf may_fail (Err (V.Argon2Memory slot memory)) = may_fail
-RefusedOnlyIf may_fail _ = Unit {0}
-
--- memory for Argon2 was refused for the key of this slot, whose turn came after the first `tried`, none of which opens.
--- These were counted
-pub record CountsRefused (order : OrderModel) (area pass : List ℕ) (slot work work' blocks blocks' : ℕ) : Type 0 where
-  pub tried : ℕ
-  pub stops : StopsAfter order.entries area pass tried slot
-  pub counted : work' ≡ capped (work + sum_by evaluations_of (take tried order.entries))
-  pub filled : capped blocks' ≡ capped (blocks + sum_by blocks_of (take tried order.entries))
+-- this much memory that Argon2 needs for the key of this slot was refused. Its turn came after the first `tried`, none of
+-- which opens. These were counted
+pub record CountsRefused (order : OrderModel) (area pass : List ℕ) (slot memory work work' blocks blocks' : ℕ) : Type 0
+  where
+    pub tried : ℕ
+    pub stops : StopsAfter order.entries area pass tried slot memory
+    pub counted : work' ≡ capped (work + sum_by evaluations_of (take tried order.entries))
+    pub filled : capped blocks' ≡ capped (blocks + sum_by blocks_of (take tried order.entries))
 
 -- the same, if memory for Argon2 was refused
-abbrev pub IfRefused : {T : Type 0} → Result T VolumeFault → (ℕ → Type 0) → Type 0
-IfRefused (Err (V.Argon2Memory slot memory)) P = P slot
+abbrev pub IfRefused : {T : Type 0} → Result T VolumeFault → (ℕ → ℕ → Type 0) → Type 0
+IfRefused (Err (V.Argon2Memory slot memory)) P = P slot memory
 IfRefused _ P = Unit {0}
 
 -- all bytes that opening the volume consumes are loaded

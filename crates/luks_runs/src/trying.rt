@@ -6,7 +6,7 @@ ghost use Rattle.luks_io.specs.Counts.{Reads};
 ghost use Rattle.luks_key_slots.specs.Fault.{has_fault, is_read_failure};
 ghost use Rattle.luks_runs.specs.declared.allowed.AllowedSlots.{AllowedSlots};
 ghost use Rattle.luks_runs.specs.Volume.{ConsumesMaterial, CountsBlocks, CountsRefused, CountsTrials};
-ghost use Rattle.luks_runs.specs.Volume.{HitsMaterialEof, IfRefused, RefusedOnlyIf, UnlessRefused};
+ghost use Rattle.luks_runs.specs.Volume.{HitsMaterialEof, IfRefused, UnlessRefused};
 ghost use Rattle.luks_runs.specs.Volume.{MatchesHeader, TriesSlots, described};
 
 use crate::found::FoundVolume;
@@ -46,10 +46,9 @@ pub fn try_slots<I: Source, D: Derive>(
         pass.now result work.old work.new) }
     ensures filled { UnlessRefused result (CountsBlocks volume.old.order volume.new.area.bytes
         pass.now (D.blocks derive.old) (D.blocks derive.new)) }
-    ensures refused { IfRefused result (λ slot. CountsRefused volume.old.order
-        volume.new.area.bytes pass.now slot work.old work.new (D.blocks derive.old)
+    ensures refused { IfRefused result (λ slot memory. CountsRefused volume.old.order
+        volume.new.area.bytes pass.now slot memory work.old work.new (D.blocks derive.old)
         (D.blocks derive.new)) }
-    ensures may_fail { RefusedOnlyIf D.may_fail result }
     ensures kept { volume.new ≡ record volume.old { area = volume.new.area } }
     ensures reads { (ended : Bool)
         × Reads (has_fault is_read_failure result) ended
@@ -74,7 +73,7 @@ pub fn try_slots<I: Source, D: Derive>(
     } = volume;
     let opening = match open_by(derive, header, area, order, pass, work) {
         Ok(opening) => opening,
-        Err(stop) => return Err(D::volume_fault(stop.slot, stop.fault)),
+        Err(stop) => return Err(VolumeFault::Argon2Memory(stop.slot, stop.memory_kib)),
     };
     match opening {
         Ok(opened) => Ok(UnlockedVolume::new(segment, opened)),

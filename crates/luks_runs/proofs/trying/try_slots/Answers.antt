@@ -76,9 +76,6 @@ returns-in_err-extend_to-clause-filled g c =
 pub returns-in_err-extend_to-clause-refused : goal.returns-in_err-extend_to-clause-refused
 returns-in_err-extend_to-clause-refused g c = rw (given_error _ _ c.from_residual.ensures.1) tt
 
-pub returns-in_err-extend_to-clause-may_fail : goal.returns-in_err-extend_to-clause-may_fail
-returns-in_err-extend_to-clause-may_fail g c = rw (given_error _ _ c.from_residual.ensures.1) tt
-
 pub returns-then-not-branch-clause-filled : goal.returns-then-not-branch-clause-filled
 returns-then-not-branch-clause-filled g c = inr (
   rw c.key_material_end-end.ensures.value at
@@ -160,48 +157,25 @@ returns-in-Err-opening-clause-filled g c = (inl (
 pub returns-in-Err-opening-clause-refused : goal.returns-in-Err-opening-clause-refused
 returns-in-Err-opening-clause-refused g c = tt
 
-pub returns-in-Err-opening-clause-may_fail : goal.returns-in-Err-opening-clause-may_fail
-returns-in-Err-opening-clause-may_fail g c = tt
-
 -- memory that Argon2 needs for one of them was refused
 pub returns-in-Err-clause-tries : goal.returns-in-Err-clause-tries
-returns-in-Err-clause-tries g c = rw c.volume_fault.ensures.memory.1
-    (rw c.key_material_end-end.ensures.value at (c.in_ok-extend_to.ensures.loads.whole.0 c.if-not-branch.false))
+returns-in-Err-clause-tries g c =
+    rw c.key_material_end-end.ensures.value at (c.in_ok-extend_to.ensures.loads.whole.0 c.if-not-branch.false)
 
 pub returns-in-Err-clause-run : goal.returns-in-Err-clause-run
 returns-in-Err-clause-run g c =
     let call = c.in_ok-extend_to.ensures in
-    rw c.volume_fault.ensures.memory.1 (record {
+    record {
       start = call.start;
       kept = call.loads.kept;
       within = rw c.key_material_end-end.ensures.value at call.loads.within;
       cut = λ cut. absurd cc;
-    })
-
-pub returns-in-Err-clause-work : goal.returns-in-Err-clause-work
-returns-in-Err-clause-work g c = rw c.volume_fault.ensures.memory.1 tt
-
-pub returns-in-Err-clause-filled : goal.returns-in-Err-clause-filled
-returns-in-Err-clause-filled g c = rw c.volume_fault.ensures.memory.1 tt
+    }
 
 pub returns-in-Err-clause-refused : goal.returns-in-Err-clause-refused
 returns-in-Err-clause-refused g c =
     let stopped = c.in-Err.ensures.stopped in
-    rw c.volume_fault.ensures.memory.1 (record {
-      tried = stopped.0;
-      stops = stopped.1;
-      counted = stopped.2;
-      filled = stopped.3;
-    })
-
-pub returns-in-Err-clause-may_fail : goal.returns-in-Err-clause-may_fail
-returns-in-Err-clause-may_fail g c = rw c.volume_fault.ensures.memory.1 c.volume_fault.ensures.may_fail
-
-pub returns-in-Err-clause-memory : goal.returns-in-Err-clause-memory
-returns-in-Err-clause-memory g c = rw c.volume_fault.ensures.memory.1 (λ is. absurd cc)
-
-pub returns-in-Err-clause-reads : goal.returns-in-Err-clause-reads
-returns-in-Err-clause-reads g c = rw c.volume_fault.ensures.memory.1 (search rules)
+    record { tried = stopped.0; stops = stopped.1; counted = stopped.2; filled = stopped.3 }
 
 -- EOF was hit on the image before, and all key areas are loaded
 pub returns-in_err-extend_to-clause-ended : goal.returns-in_err-extend_to-clause-ended

@@ -11,6 +11,7 @@ use Rattle.luks_commands.proofs.OpenedRuns.{reads_of_image}
 use Rattle.luks_commands.proofs.VolumeRuns.{counts_opened, counts_unopened, early_unfound, locked_tried}
 use Rattle.luks_commands.proofs.VolumeRuns.{locked_unfound, locked_unread, unlocked_tried}
 use Rattle.luks_key_slots.proofs.CallerLemmas.{All-IsPbkdf2}
+use Rattle.luks_key_slots.proofs.StopLemmas.{never_stops}
 use Rattle.luks_commands.proofs.execute.volumes.unlock.Goals as goal
 
 -- no key slot needs Argon2
@@ -106,6 +107,10 @@ returns-in_err-opened-clause-work g c =
     rw (given_error _ _ c.from_residual-in_err-opened.ensures.1) (λ known is pass has.
     let whole = c.in_ok-passphrase.ensures.ok pass has in
     let found = rw c.pbkdf2_alone.ensures at (c.in_ok-volume.ensures.found.found known is) in
+    let slots = rw c.pbkdf2_alone.ensures at c.in_ok-volume.ensures.found.slots in
+    let pbkdf2 = All-IsPbkdf2 c.in_ok-volume.volume.header (pbkdf2_alone c.args.slots).named
+    (pbkdf2_alone c.args.slots).limits c.in_ok-volume.volume.order slots.order c.in_ok-volume.volume.segment
+    slots.segment refl in
     counts_unopened c.args.location (pbkdf2_alone c.args.slots) known pass _ (Some pass) _ _ found _ (Err c.in_err-opened.field-0.0)
     (subst (λ p. TriesSlots (described c.in_ok-volume.volume) c.try_slots.new.volume.area.bytes p
     (Err c.in_err-opened.field-0.0)) (c.deref.ensures.value ∙ whole.0) c.in_err-opened.ensures.tries)
@@ -113,8 +118,9 @@ returns-in_err-opened-clause-work g c =
     (rw (c.deref.ensures.value, whole.0) at
     (counts_given {T = UnlockedVolume} (Err c.in_err-opened.field-0.0)
     (CountsTrials c.in_ok-volume.volume.order c.try_slots.new.volume.area.bytes c.deref.result.now
-    (Err c.in_err-opened.field-0.0) c.args.work.now c.try_slots.new.work)
-    c.in_err-opened.ensures.may_fail c.in_err-opened.ensures.work)) c.in_ok-passphrase.ensures.reads.ends _ refl)
+    (Err c.in_err-opened.field-0.0) c.args.work.now c.try_slots.new.work) _
+    (λ slot memory refused. never_stops _ _ _ _ _ _ pbkdf2 refused.stops)
+    c.in_err-opened.ensures.refused c.in_err-opened.ensures.work)) c.in_ok-passphrase.ensures.reads.ends _ refl)
 
 -- ---- one of them opened
 
