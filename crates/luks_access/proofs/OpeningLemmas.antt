@@ -2,7 +2,7 @@
 use Rattle.std.proofs.Common.{◌≡◌, ℕ, List, Result, Ok, Err, ◌∙◌, ap, sym, refl, subst, ◌-◌, length, Bool, true, false}
 use Rattle.std.proofs.Common.{Option, arith, take}
 use Rattle.std.proofs.lemmas.List.{take-take}
-use Rattle.std.specs.Prelude.{IfErr, nat_lt, if◌then◌else◌}
+use Rattle.std.specs.Prelude.{IfErr, is_some, nat_lt, if◌then◌else◌}
 use Rattle.luks_header_area.specs.Area.{max_loaded_len}
 use Rattle.luks_key_slots.specs.Fault.{aborts_opening}
 use Rattle.luks_key_slots.specs.declared.fault.PassphraseFault.{PassphraseFault}
@@ -13,6 +13,7 @@ use Rattle.luks_key_slots.specs.declared.fault.VolumeFault.TheVariants.{Argon2Me
 use Rattle.luks_key_slots.specs.declared.opening.Opened.{Opened}
 use Rattle.luks_report.specs.Faults.{message_at_end}
 use Rattle.luks_report.specs.declared.message.Message.TheVariants.{Done}
+use Rattle.luks_runs.specs.Allowed.{pbkdf2_alone}
 use Rattle.luks_runs.specs.Run.{Outcome}
 use Rattle.luks_runs.specs.Location.{reader_for}
 use Rattle.luks_runs.specs.declared.location.HeaderLocation.{HeaderLocation}
@@ -21,16 +22,16 @@ use Rattle.luks_runs.proofs.HonestVolumes.{unsealed}
 use Rattle.luks_runs.proofs.PrefixLemmas.{opening_decided}
 use Rattle.luks_runs.proofs.VolumeLemmas.{message_says}
 use Rattle.luks_runs.specs.Volume.{CanBeTried, OnOpened, OpeningMatches, OpeningMessage, VolumeOpening, opened_of}
-use Rattle.luks_runs.specs.Volume.{outcome_by, payload_outcome, volume_outcome_by}
+use Rattle.luks_runs.specs.Volume.{outcome_by, payload_outcome, volume_opening_by, volume_outcome_by}
 use Rattle.luks_runs.specs.declared.unlocked.UnlockedVolume.{UnlockedVolume}
 use Rattle.luks_verdict.specs.declared.segment.Segment.{Segment}
 use Rattle.luks_payload.proofs.SectorLemmas.{by_ending}
-use Rattle.luks_payload.specs.Plain.{ending_of, ending_of_len, sector_len}
+use Rattle.luks_payload.specs.Plain.{ending_of, ending_of_len, plain_of, sector_len}
 use Rattle.luks_payload.specs.declared.fault.PayloadFault.{PayloadFault}
 use Rattle.luks_payload.specs.declared.fault.PayloadFault.TheVariants.{CutBeforePayload as VolumeCutBeforePayload}
 use Rattle.luks_payload.specs.declared.state.Step.{Step}
 use Rattle.luks_payload.specs.declared.state.Step.TheVariants.{End}
-use Rattle.luks_access.specs.Opens.{EndsOpening, HasPlaintext, Opens, OpensVolume, Refuses, RefusesVolume, cat_outcome_of}
+use Rattle.luks_access.specs.Opens.{CatsByKey, EndsOpening, HasPlaintext, Opens, OpensVolume, Refuses, RefusesVolume, cat_outcome_of}
 use Rattle.luks_access.specs.Opens.{allowed_by, opening_with, payload_image_of}
 use Rattle.luks_access.specs.declared.options.Options.{Options}
 
@@ -65,6 +66,30 @@ module _ (options : Options) (header pass : List ℕ) where
           let cat = outcome (payload_outcome Detached image pass) in
           (ap (λ (out : Outcome). out.output) cat, ap (λ (out : Outcome). out.message) cat)
 
+-- what `luksCat` writes depends on the volume key alone, not on the key slot that gives it
+cat_by_key : (location : HeaderLocation) (v : UnlockedVolume) → CatsByKey location v
+unfolding volume_outcome_by
+cat_by_key Attached v slots header image pass opened is same =
+    let opening = volume_opening_by (reader_for Attached) (pbkdf2_alone slots) header pass in
+    let on_opened : OnOpened = payload_outcome Attached header pass in
+    let cat : volume_outcome_by (reader_for Attached) on_opened (pbkdf2_alone slots) header pass
+    ≡ on_opened v.segment opened opening.consumed =
+    ap (outcome_by on_opened opening.consumed opening.secret_consumed) is in (
+      ap (λ (out : Outcome). out.output) cat
+          ∙ ap (λ (key : List ℕ). plain_of v.segment (v.segment.mode, key) header) same,
+      ap (λ (out : Outcome). out.message) cat,
+    )
+cat_by_key Detached v slots header image pass opened is same =
+    let opening = volume_opening_by (reader_for Detached) (pbkdf2_alone slots) header pass in
+    let on_opened : OnOpened = payload_outcome Detached image pass in
+    let cat : volume_outcome_by (reader_for Detached) on_opened (pbkdf2_alone slots) header pass
+    ≡ on_opened v.segment opened opening.consumed =
+    ap (outcome_by on_opened opening.consumed opening.secret_consumed) is in (
+      ap (λ (out : Outcome). out.output) cat
+          ∙ ap (λ (key : List ℕ). plain_of v.segment (v.segment.mode, key) image) same,
+      ap (λ (out : Outcome). out.message) cat,
+    )
+
 -- if the message at a payload's end is `Done`, the payload is whole
 abbrev WholeIfDone : Result Step PayloadFault → Type 0
 WholeIfDone r = message_at_end r ≡ Done → r ≡ Ok End
@@ -85,6 +110,7 @@ volume_opened : (options : Options) (image pass : List ℕ) (v : UnlockedVolume)
 volume_opened options image pass v opens = record {
   opens = opens;
   cats = λ other. cat_by options image pass other v opens;
+  cats_by_key = cat_by_key options.location v;
   honest = λ plain attached honest.
       let cat = rw attached at (cat_by options image pass image v opens) in
       let sealed = unsealed (allowed_by options) image pass plain honest in
@@ -94,7 +120,8 @@ volume_opened options image pass v opens = record {
 volume_refused : (options : Options) (image pass : List ℕ) (fault : VolumeFault)
     → (aborts_opening fault ≡ false → Refuses options image pass fault)
     → (fault ≡ Slots Memory → CanBeTried (opening_with options image pass).result)
-    → ((slot kib : ℕ) → fault ≡ Argon2Memory slot kib → CanBeTried (opening_with options image pass).result)
+    → ((slot kib : ℕ) → fault ≡ Argon2Memory slot kib
+    → (is_some options.argon2 ≡ true) × CanBeTried (opening_with options image pass).result)
     → ((passphrase : PassphraseFault) → fault ≡ Passphrase passphrase → passphrase ≡ TooLong)
     → RefusesVolume options image pass fault
 volume_refused options image pass fault refuses memory argon2 only_long = record {
@@ -114,16 +141,17 @@ volume_refused options image pass fault refuses memory argon2 only_long = record
 pub ends_opening : (options : Options) (image pass : List ℕ) (result : Result UnlockedVolume VolumeFault)
     (left : Option (List ℕ)) → OpeningMatches (opening_with options image pass) image result left
     → IfErr result (λ fault. (passphrase : PassphraseFault) → fault ≡ Passphrase passphrase → passphrase ≡ TooLong)
+    → IfErr result (λ fault. (slot kib : ℕ) → fault ≡ Argon2Memory slot kib → is_some options.argon2 ≡ true)
     → EndsOpening options image pass result left
-ends_opening options image pass (Ok v) left ends only_long = record {
+ends_opening options image pass (Ok v) left ends only_long limits = record {
   opens = volume_opened options image pass v (sym (ends.answer refl));
   refuses = tt;
   consumes = ends.consumed;
 }
-ends_opening options image pass (Err fault) left ends only_long = record {
+ends_opening options image pass (Err fault) left ends only_long limits = record {
   opens = tt;
   refuses = volume_refused options image pass fault (λ never. sym (ends.answer never)) (λ is. ends.memory (ap Err is))
-      (λ slot kib is. ends.argon2 slot kib (ap Err is)) only_long;
+      (λ slot kib is. (limits slot kib is, ends.argon2 slot kib (ap Err is))) only_long;
   consumes = ends.consumed;
 }
 
@@ -146,6 +174,6 @@ module _ (options : Options) (image pass : List ℕ) where
       volume_refused options image pass fault
       (λ never. sym (ap (λ (o : VolumeOpening). o.result) same_at_start) ∙ refused.refuses never)
       (λ ran_out. subst (λ (o : VolumeOpening). CanBeTried o.result) same_at_start (refused.memory ran_out))
-      (λ slot kib ran_out. subst (λ (o : VolumeOpening). CanBeTried o.result) same_at_start
-      (refused.argon2 slot kib ran_out))
+      (λ slot kib ran_out. let there = refused.argon2 slot kib ran_out in
+      (there.0, subst (λ (o : VolumeOpening). CanBeTried o.result) same_at_start there.1))
       refused.only_long

@@ -1,5 +1,5 @@
 -- Which volume is opened, compared with `luksCat`.
-use Rattle.std.specs.Prelude.{ℕ, ◌≡◌, List, Ok, IfErr, IfOk, false, Option, Result, Err}
+use Rattle.std.specs.Prelude.{ℕ, ◌≡◌, List, Ok, IfErr, IfOk, false, true, is_some, Option, Result, Err}
 use Rattle.luks_cipher.specs.Sector.{Cipher}
 use Rattle.luks_key_slots.specs.Fault.{aborts_opening, has_fault}
 use Rattle.luks_key_slots.specs.declared.fault.OpenFault.TheVariants.{Memory}
@@ -8,6 +8,9 @@ use Rattle.luks_key_slots.specs.declared.fault.PassphraseFault.TheVariants.{TooL
 use Rattle.luks_key_slots.specs.declared.fault.VolumeFault.{VolumeFault}
 use Rattle.luks_key_slots.specs.declared.fault.VolumeFault.TheVariants as V
 use Rattle.luks_report.specs.Faults.{message_at_end}
+use Rattle.luks_key_slots.specs.declared.opening.Opened.{Opened}
+use Rattle.luks_request.specs.declared.command.SlotChoice.{SlotChoice}
+use Rattle.luks_runs.specs.Allowed.{pbkdf2_alone}
 use Rattle.luks_runs.specs.declared.allowed.AllowedSlots.{AllowedSlots}
 use Rattle.luks_runs.specs.Run.{Outcome}
 use Rattle.luks_runs.specs.Location.{detached_header_of, reader_for}
@@ -65,23 +68,36 @@ abbrev pub HasPlaintext : Outcome → UnlockedVolume → List ℕ → Type 0
 HasPlaintext outcome v image =
     (outcome.output ≡ plaintext_of v image) × (outcome.message ≡ message_at_end (ending_of v.segment image))
 
--- a volume was opened (`opens`): what `luksCat` writes of it, from the same volume key, is its plaintext (`cats`). If it was
--- sealed honestly, with an attached header, that is the plaintext that was sealed, and it is whole (`honest`)
+-- with a header at the same location and the same segment, under a passphrase that gives the same volume key, `luksCat`
+-- writes this volume's plaintext
+abbrev pub CatsByKey : HeaderLocation → UnlockedVolume → Type 0
+CatsByKey location v = (slots : SlotChoice) (header image pass : List ℕ) (opened : Opened)
+    → (volume_opening_by (reader_for location) (pbkdf2_alone slots) header pass).result ≡ Ok (v.segment, opened)
+    → opened.key ≡ v.key
+    → HasPlaintext (cat_outcome_of location (pbkdf2_alone slots) header image pass) v
+    (payload_image_of location header image)
+
+-- a volume was opened (`opens`): what `luksCat` would write if it tried the same key slots is its plaintext (`cats`), and
+-- so is what `luksCat` writes of each volume with the same segment and volume key, whichever key slot was opened here
+-- (`cats_by_key`). If it was sealed honestly, with an attached header, that is the plaintext that was sealed, and it is
+-- whole (`honest`)
 pub record OpensVolume (options : Options) (header pass : List ℕ) (v : UnlockedVolume) : Type 0 where
   pub opens : Opens options header pass v
   pub cats : (image : List ℕ) → HasPlaintext (cat_outcome_of options.location (allowed_by options) header image pass) v
       (payload_image_of options.location header image)
+  pub cats_by_key : CatsByKey options.location v
   pub honest : (plain : List ℕ) → options.location ≡ Attached → OpensHonest (allowed_by options) header pass plain
       → (plaintext_of v header ≡ plain) × (ending_of v.segment header ≡ Ok End)
 
 -- no volume was opened. Unless memory ran out or a read failed, opening ends with this fault (`refuses`), and the
 -- image is no honestly sealed volume, with an attached header, that this passphrase opens (`no_honest`). Memory for the
--- key slots runs out only if some can be tried (`memory`), and so does memory for Argon2 (`argon2`)
+-- key slots runs out only if some can be tried (`memory`). So does memory for Argon2, and only if there are limits for it
+-- (`argon2`)
 pub record RefusesVolume (options : Options) (header pass : List ℕ) (fault : VolumeFault) : Type 0 where
   pub refuses : aborts_opening fault ≡ false → Refuses options header pass fault
   pub memory : fault ≡ V.Slots Memory → CanBeTried (opening_with options header pass).result
   pub argon2 : (slot memory : ℕ) → fault ≡ V.Argon2Memory slot memory
-      → CanBeTried (opening_with options header pass).result
+      → (is_some options.argon2 ≡ true) × CanBeTried (opening_with options header pass).result
   -- the passphrase is there and is not read: it can only be too long
   pub only_long : (passphrase : PassphraseFault) → fault ≡ V.Passphrase passphrase → passphrase ≡ TooLong
   pub no_honest : (plain : List ℕ) → options.location ≡ Attached → aborts_opening fault ≡ false

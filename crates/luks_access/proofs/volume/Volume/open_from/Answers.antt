@@ -7,6 +7,7 @@ use Rattle.luks_runs.proofs.OpeningLemmas.{opens_as, opens_unfound, opens_unread
 use Rattle.luks_runs.proofs.VolumeLemmas.{reads_on}
 use Rattle.luks_runs.specs.KeyFile.{max_key_file_len}
 use Rattle.luks_argon2_slots.proofs.DerivingLemmas.{All-CanDerive}
+use Rattle.luks_key_slots.proofs.StopLemmas.{needs_limits}
 use Rattle.luks_access.specs.Opens.{allowed_by}
 use Rattle.luks_access.proofs.volume.Volume.open_from.Goals as goal
 
@@ -24,7 +25,8 @@ returns-in_err-found-clause-answers g c =
     rw (given_error _ _ c.from_residual.ensures.1) (λ known is.
     ends_opening c.args.options.now known c.args.pass.now (Err c.in_err-found.field-0.0) _
     (opens_unfound _ _ known c.args.pass.now _ _ (rw c.allowed_by.ensures at (c.in_err-found.ensures.err known is)))
-    (λ passphrase same. absurd (c.in_err-found.ensures.only passphrase (ap Err same))))
+    (λ passphrase same. absurd (c.in_err-found.ensures.only passphrase (ap Err same)))
+    (λ slot kib same. absurd ((c.in_err-found.ensures.err known is).no_argon2 slot kib same)))
 
 -- the passphrase is too long
 pub returns-then-pass-gt-MAX_PASSPHRASE_LEN-clause-answers : goal.returns-then-pass-gt-MAX_PASSPHRASE_LEN-clause-answers
@@ -39,6 +41,7 @@ returns-then-pass-gt-MAX_PASSPHRASE_LEN-clause-answers g c known is =
       },
     ) in
     ends_opening c.args.options.now known c.args.pass.now (Err (Passphrase TooLong)) _ unread.0 (λ passphrase same. cc)
+    (λ slot kib same. absurd cc)
 
 -- the key slots were tried
 pub returns-clause-answers : goal.returns-clause-answers
@@ -46,7 +49,7 @@ returns-clause-answers g c known is =
     let found = rw c.allowed_by.ensures at (c.in_ok-found.ensures.found.found known is) in
     let then = c.in_ok-unlocked.ensures in
     ends_opening c.args.options.now known c.args.pass.now (Ok c.in_ok-unlocked.unlocked) _
-    (opens_as _ _ known c.args.pass.now _ _ found _ _ _ then.run then.tries (omega arith)) tt
+    (opens_as _ _ known c.args.pass.now _ _ found _ _ _ then.run then.tries (omega arith)) tt tt
 
 pub returns-in_err-unlocked-clause-answers : goal.returns-in_err-unlocked-clause-answers
 returns-in_err-unlocked-clause-answers g c =
@@ -55,7 +58,13 @@ returns-in_err-unlocked-clause-answers g c =
     let found = rw c.allowed_by.ensures at (c.in_ok-found.ensures.found.found known is) in
     ends_opening c.args.options.now known c.args.pass.now (Err c.in_err-unlocked.field-0.0) _
     (opens_as _ _ known c.args.pass.now _ _ found _ _ _ then.run then.tries (omega arith))
-    (λ passphrase same. absurd (rw same at then.tries)))
+    (λ passphrase same. absurd (rw same at then.tries))
+    (λ slot kib same.
+    let slots = rw c.allowed_by.ensures at c.in_ok-found.ensures.found.slots in
+    let allowed = allowed_by c.args.options.now in
+    let refused = rw same at then.refused in
+    needs_limits c.in_ok-found.found.header allowed.named allowed.limits c.in_ok-found.found.order slots.order
+    c.in_ok-found.found.segment slots.segment _ _ _ slot kib refused.stops))
 
 pub returns-in_err-unlocked-clause-reads : goal.returns-in_err-unlocked-clause-reads
 returns-in_err-unlocked-clause-reads g c =
