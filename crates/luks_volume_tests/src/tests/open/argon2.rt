@@ -1,19 +1,27 @@
-//! A volume of LUKS2 with slots of Argon2: which are tried within which limits.
+//! A volume of LUKS2 with slots of Argon2: which are tried within which limits, which slot each
+//! passphrase opens, and how many blocks that fills.
 //!
 //! Derived keys are by the program `argon2` and Python's hashlib, key material by hashlib and the
 //! package cryptography (AES in its mode XTS).
 
 use hex::decode_to_slice;
+use luks_access::options::Options;
+use luks_access::volume::Volume;
+use luks_access::{HeaderLocation, SlotChoice, VolumeFault};
+use luks_argon2_slots::with_argon2::WithArgon2;
 use luks_header::area::HeaderArea;
 use luks_header::derivation::{Argon2Limits, Limits};
 use luks_header::header::{Header, read_header};
 use luks_header::payload::segment;
 use luks_header::refusal::SkipReason;
 use luks_io::memory::MemSource;
+use luks_kdf::Work;
 use luks_key_slots::fault::OpenFault;
+use luks_key_slots::opening::{Opened, Underived, open_by};
 use luks_key_slots::order::{Order, key_material_end};
 use luks_key_slots::ordering::{order, order_within};
 use luks_test_support::header2::image_of;
+use luks_test_support::scarce::Scarcity;
 use std::process::Abort;
 
 // | Slot | Derived by | Passes | KiB | Lanes | Priority | Passphrase |
@@ -64,6 +72,8 @@ static AREAS: [&str; 4] = [
     "801d7f870b201a4e73b04906453de53ff00832934d4d1f7ad5743d9b0903d04b\
      92d759c142422f1a779bcf3c97d37460fda8adcd55416c51e97904f18516eec7",
 ];
+
+const KEY: &str = "22e46475321af7d4b697c0766f0650c2884d4b8c45d9ee542ecddacbd8982d90";
 
 fn image(rt: &(impl Abort + AllocGlobal)) -> Vec<u8> {
     let text = PARTS.concat(rt.alloc()).expect(rt, "memory");
@@ -166,4 +176,174 @@ fn the_order_without_argon2_is_that_of_pbkdf2_alone(rt: HostRuntime) {
     let order = order(rt.alloc(), &header, None, None).expect(&rt, "an order");
     let entries = order.entries();
     assert!(rt; entries.len() == 1 && entries[0].number == 2);
+}
+
+// A passphrase, a named slot, the limits, and whether memory is to be refused.
+#[derive(Clone, Copy)]
+struct Question<'a> {
+    pass: &'a [u8],
+    named: Option<u8>,
+    limits: Limits,
+    scarce: bool,
+}
+
+// How opening ends under a passphrase, by a named slot and these limits. If memory is to be refused,
+// all of it is taken first.
+fn opening(
+    rt: &(impl Abort + AllocGlobal),
+    image: &[u8],
+    question: Question<'_>,
+    derive: &mut WithArgon2,
+    work: &mut Work,
+) -> Result<Result<Opened, OpenFault>, Underived> {
+    let pass = question.pass;
+    assert!(rt; pass.len() < 100);
+    let mut source = MemSource::new(image);
+    let (header, mut area) = read_header(rt.alloc(), &mut source).expect(rt, "a header");
+    let Ok(_) = segment(&header) else {
+        panic!(rt; "the segment is refused");
+    };
+    let order = match order_within(rt.alloc(), &header, question.named, question.limits) {
+        Ok(order) => order,
+        Err(_) => panic!(rt; "no order"),
+    };
+    let Ok(true) = area.extend_to(&mut source, key_material_end(&order)) else {
+        panic!(rt; "the image is cut");
+    };
+    let _scarcity = if question.scarce {
+        Some(Scarcity::new(rt.alloc(), 400, 1100).expect(rt, "memory"))
+    } else {
+        None
+    };
+    open_by(derive, &header, &area, &order, pass, work)
+}
+
+fn is_key(rt: &(impl Abort + AllocGlobal), opened: &Opened) -> bool {
+    let mut key = [0u8; 32];
+    decode_to_slice(KEY, &mut key).expect(rt, "a key");
+    opened.key.as_slice() == key.as_slice()
+}
+
+// A passphrase, a named slot, the slot that opens, the evaluations of HMAC and the filled blocks.
+// The digest takes 3 evaluations for each slot, slot 2 takes 5 more. Slot 3 fills 192 blocks, slot 0
+// 32, and slot 1 216.
+static OPENINGS: [(&[u8], Option<u8>, Option<u8>, u128, u128); 8] = [
+    (b"fourth", None, Some(3), 3, 192),
+    (b"first", None, Some(0), 6, 224),
+    (b"second", None, Some(1), 9, 440),
+    (b"third", None, Some(2), 17, 440),
+    (b"fifth", None, None, 17, 440),
+    (b"second", Some(1), Some(1), 3, 216),
+    (b"second", Some(0), None, 3, 32),
+    (b"third", Some(2), Some(2), 8, 0),
+];
+
+#[test]
+fn each_passphrase_opens_its_slot(rt: HostRuntime) {
+    let image = image(&rt);
+    let limits = within(u32::MAX, u64::MAX);
+    for (pass, named, slot, evaluations, blocks) in &OPENINGS {
+        let mut work = Work::new(0);
+        let mut derive = WithArgon2::new(rt.alloc());
+        let question = Question {
+            pass,
+            named: *named,
+            limits,
+            scarce: false,
+        };
+        let answer = opening(&rt, &image, question, &mut derive, &mut work);
+        let opening = answer.ok().expect(&rt, "memory");
+        let opens = match (&opening, slot) {
+            (Ok(opened), Some(slot)) => opened.slot == *slot && is_key(&rt, opened),
+            (Err(OpenFault::NoKey(skipped)), None) => skipped.as_slice().is_empty(),
+            _ => false,
+        };
+        let counts = [work.count(), derive.filled_blocks()];
+        assert!(rt;
+            opens && counts == [*evaluations, *blocks],
+            "{slot:?}: {counts:?}"
+        );
+    }
+}
+
+// A passphrase, what Argon2 may cost, and the slot that the library opens. Without Argon2 it opens
+// slot 2 alone, as luksCat does.
+static VOLUMES: [(&[u8], Option<(u32, u64)>, Option<u8>); 8] = [
+    (b"first", Some((96, 225)), Some(0)),
+    (b"second", Some((96, 225)), Some(1)),
+    (b"third", Some((96, 225)), Some(2)),
+    (b"fourth", Some((96, 225)), Some(3)),
+    (b"second", Some((74, 225)), None),
+    (b"fourth", Some((96, 191)), None),
+    (b"third", None, Some(2)),
+    (b"fourth", None, None),
+];
+
+#[test]
+fn the_library_opens_volumes_within_the_limits(rt: HostRuntime) {
+    let image = image(&rt);
+    let mut key = [0u8; 32];
+    decode_to_slice(KEY, &mut key).expect(&rt, "a key");
+    for (pass, limits, slot) in &VOLUMES {
+        let limits = match limits {
+            Some((memory_kib, fill_kib)) => within(*memory_kib, *fill_kib),
+            None => Limits::without_argon2(None),
+        };
+        let options = Options {
+            location: HeaderLocation::Attached,
+            slots: SlotChoice {
+                named: None,
+                max_iterations: None,
+            },
+            argon2: limits.argon2,
+        };
+        let mut source = MemSource::new(&image);
+        let opens = match (
+            Volume::open_from(rt.alloc(), &options, &mut source, pass),
+            slot,
+        ) {
+            (Ok(volume), Some(slot)) => volume.slot() == *slot && volume.key() == key.as_slice(),
+            (Err(VolumeFault::Slots(OpenFault::NoKey(_))), None) => true,
+            _ => false,
+        };
+        assert!(rt; opens, "{slot:?}, {limits:?}");
+    }
+}
+
+// The memory of one passphrase serves for the next, and what was counted stays.
+#[test]
+fn several_passphrases_share_one_memory(rt: HostRuntime) {
+    let image = image(&rt);
+    let mut work = Work::new(0);
+    let mut derive = WithArgon2::new(rt.alloc());
+    for pass in [b"x".as_slice(), b"fourth", b"y", b"fourth"] {
+        let question = Question {
+            pass,
+            named: Some(3),
+            limits: within(96, 192),
+            scarce: false,
+        };
+        let answer = opening(&rt, &image, question, &mut derive, &mut work);
+        let opening = answer.ok().expect(&rt, "memory");
+        assert!(rt; opening.is_ok() == (pass == b"fourth".as_slice()));
+    }
+    assert!(rt; [work.count(), derive.filled_blocks()] == [12, 768]);
+}
+
+// Slot 3 comes first. Its memory is refused, and no other slot is tried.
+#[test]
+fn refused_memory_ends_opening(rt: HostRuntime) {
+    let image = image(&rt);
+    let mut work = Work::new(0);
+    let mut derive = WithArgon2::new(rt.alloc());
+    let question = Question {
+        pass: b"first",
+        named: None,
+        limits: within(96, 225),
+        scarce: true,
+    };
+    let answer = opening(&rt, &image, question, &mut derive, &mut work);
+    let stop = answer.err().expect(&rt, "no memory");
+    assert!(rt; [u32::from(stop.slot), stop.memory_kib] == [3, 96]);
+    assert!(rt; [work.count(), derive.filled_blocks()] == [0, 0]);
 }
