@@ -15,6 +15,7 @@ use Rattle.luks_runs.specs.Location.{HeaderReader, reader_for, detached_header_o
 use Rattle.luks_runs.specs.declared.location.HeaderLocation.{HeaderLocation}
 use Rattle.luks_runs.specs.declared.location.HeaderLocation.TheVariants.{Attached, Detached}
 use Rattle.luks_runs.specs.Payload.{max_payload_end}
+use Rattle.luks_runs.specs.Plain.{PlainOpeningMessage}
 use Rattle.luks_runs.specs.Run.{Promptness, AnyPromptness, is_run_read_failure}
 use Rattle.luks_runs.specs.Run.{is_run_write_failure, DetachedRunMatches, aborts, Outcome}
 use Rattle.luks_runs.specs.Stripe.{max_key_len, PromptSplit, merge_outcome, split_outcome}
@@ -207,14 +208,15 @@ WritesPlain _ message image secret output = Unit {0}
 
 -- ---- `only`: the messages
 
--- the messages that a command may end with, whatever its devices do
+-- the messages that a command may end with, whatever its devices do. None names a reason to skip a key slot that only a
+-- program with Argon2 has
 abbrev pub MayReport : Request → Message → Type 0
 MayReport (is_luks _) message = IsLuksMessage message
 MayReport (luks_uuid _) message = PrintMessage message
 MayReport (luks_dump _) message = PrintMessage message
 MayReport (luks_check _) message = CheckMessage message
-MayReport (test_passphrase o) message = OpeningMessage message ⊎ (message ≡ Done ⊎ message ≡ WriteFailed)
-MayReport (luks_cat o) message = OpeningMessage message ⊎ PayloadMessage message
+MayReport (test_passphrase o) message = PlainOpeningMessage message ⊎ (message ≡ Done ⊎ message ≡ WriteFailed)
+MayReport (luks_cat o) message = PlainOpeningMessage message ⊎ PayloadMessage message
 MayReport (af_split s) message = SplitMessage message
 MayReport (af_merge m) message = MergeMessage message
 

@@ -35,7 +35,8 @@ impl Message {
     /// The line of the message, newline included, or nothing if it has none.
     #[tactic(auto, using(crate::proofs::Lengths::reason_len, crate::proofs::Lengths::fault_len))]
     pub fn line(&self) -> Line
-        ensures { result ≡ line_of self.now }
+        ensures value { result ≡ line_of self.now }
+        ensures fits { length result ≤ 1016 }
     {
         match self {
             Message::Done | Message::No => Line::new(),
@@ -70,7 +71,8 @@ impl Message {
 
 /// The text about memory that Argon2 needs for a key slot and does not get. It has no newline.
 pub fn argon2_memory_line(slot: u8, memory_kib: u32) -> Line
-    ensures { result ≡ argon2_memory_text slot memory_kib }
+    ensures value { result ≡ argon2_memory_text slot memory_kib }
+    ensures fits { length result ≤ 200 }
 {
     let mut whole = Line::new();
     whole.push("luksrd: out of memory: Argon2 needs ");
@@ -93,7 +95,8 @@ fn text(text: &str) -> Line
 // A line of two texts.
 fn sentence(text: &str, rest: &str) -> Line
     requires { length text.now + length rest.now ≤ 200 }
-    ensures { result ≡ message_line (text.now ++ rest.now) }
+    ensures value { result ≡ message_line (text.now ++ rest.now) }
+    ensures fits { length result ≤ 300 }
 {
     let mut whole = Line::new();
     whole.push("luksrd: ");
@@ -106,7 +109,8 @@ fn sentence(text: &str, rest: &str) -> Line
 // A line with a number of bytes.
 fn of_bytes(text: &str, bytes: u64, rest: &str) -> Line
     requires { length text.now + length rest.now ≤ 200 }
-    ensures { result ≡ message_line (text.now ++ decimal bytes ++ rest.now) }
+    ensures value { result ≡ message_line (text.now ++ decimal bytes ++ rest.now) }
+    ensures fits { length result ≤ 300 }
 {
     let mut whole = Line::new();
     whole.push("luksrd: ");
@@ -120,11 +124,13 @@ fn of_bytes(text: &str, bytes: u64, rest: &str) -> Line
 // A line about a key slot.
 fn on_slot(slot: u8, text: &str, rest: &str) -> Line
     requires { length text.now + length rest.now ≤ 200 }
-    ensures { result ≡ message_line (codes "key slot " ++ decimal slot ++ text.now ++ rest.now) }
+    ensures value { result
+        ≡ message_line (codes "key slot " ++ decimal slot ++ text.now ++ rest.now) }
+    ensures fits { length result ≤ 300 }
 {
     let mut whole = Line::new();
     whole.push("luksrd: key slot ");
-    whole.push_number(u64::from(slot));
+    whole.push_small(slot);
     whole.push(text);
     whole.push(rest);
     whole.push("\n");
@@ -133,8 +139,9 @@ fn on_slot(slot: u8, text: &str, rest: &str) -> Line
 
 // A line that ends with the key slots that were skipped.
 fn with_skipped(text: &str, skipped: &SkippedSlots) -> Line
-    requires { length text.now ≤ 100 }
-    ensures { result ≡ message_line (text.now ++ skips_text skipped.now) }
+    requires { length text.now ≤ 30 }
+    ensures value { result ≡ message_line (text.now ++ skips_text skipped.now) }
+    ensures fits { length result ≤ 1016 }
 {
     let mut whole = Line::new();
     whole.push("luksrd: ");
@@ -146,10 +153,10 @@ fn with_skipped(text: &str, skipped: &SkippedSlots) -> Line
 
 // Appends the text about the skipped key slots to a line.
 fn push_skipped(whole: &mut Line, skipped: &[(u8, SkipReason)])
-    requires short { length whole.old ≤ 200 }
+    requires short { length whole.old ≤ 40 }
     requires few { length skipped.now ≤ 32 }
     ensures value { whole.new ≡ whole.old ++ skips_text skipped.now }
-    ensures fits { length whole.new ≤ 2000 }
+    ensures fits { length whole.new ≤ length whole.old + 910 }
 {
     if let [first, rest @ ..] = skipped {
         whole.push("; skipped: ");
@@ -160,10 +167,10 @@ fn push_skipped(whole: &mut Line, skipped: &[(u8, SkipReason)])
 
 // Appends further skipped key slots after the first one.
 fn push_more(whole: &mut Line, skipped: &[(u8, SkipReason)])
-    requires short { length whole.old ≤ 300 }
+    requires short { length whole.old ≤ 120 }
     requires few { length skipped.now ≤ 31 }
     ensures value { whole.new ≡ whole.old ++ more_skips_text skipped.now }
-    ensures fits { length whole.new ≤ 2000 }
+    ensures fits { length whole.new ≤ length whole.old + 837 }
 {
     for skip in skipped {
         whole.push(", ");
@@ -176,10 +183,10 @@ fn push_more(whole: &mut Line, skipped: &[(u8, SkipReason)])
 fn push_skip(whole: &mut Line, skip: (u8, SkipReason))
     requires { length whole.old ≤ 1900 }
     ensures value { whole.new ≡ whole.old ++ skip_text skip }
-    ensures fits { length whole.new ≤ length whole.old + 50 }
+    ensures fits { length whole.new ≤ length whole.old + 25 }
 {
     let (number, reason) = skip;
-    whole.push_number(u64::from(number));
+    whole.push_small(number);
     whole.push(" (");
     whole.push(reason.text());
     whole.push(")");

@@ -4,6 +4,7 @@ pub mod Honest
 pub mod KeyFile
 pub mod Location
 pub mod Payload
+pub mod Plain
 pub mod Run
 pub mod RunMessages
 pub mod Stripe

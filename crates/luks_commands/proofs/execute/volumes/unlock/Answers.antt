@@ -2,6 +2,7 @@ use Rattle.std.proofs.Common.{◌∙◌, ◌≤◌, Err, Ok, Some, subst, ap, ar
 use Rattle.luks_key_slots.specs.declared.fault.VolumeFault.TheVariants.{Passphrase}
 use Rattle.luks_io.proofs.ErrorLemmas.{given_error}
 use Rattle.luks_runs.proofs.OpeningLemmas.{counts_given}
+use Rattle.luks_runs.proofs.ReasonLemmas.{not_refused, plain_tries}
 use Rattle.luks_runs.proofs.VolumeLemmas.{message_says, reads_on, there_is_volume}
 use Rattle.luks_runs.specs.KeyFile.{max_key_file_len}
 use Rattle.luks_runs.specs.Volume.{CountsTrials, TriesSlots, described}
@@ -39,6 +40,10 @@ returns-in_err-volume-clause-work g c =
       refl,
     ))
 
+pub returns-in_err-volume-clause-plain : goal.returns-in_err-volume-clause-plain
+returns-in_err-volume-clause-plain g c =
+    rw (given_error _ _ c.from_residual.ensures.1) (c.in_err-volume.ensures.plain (rw c.pbkdf2_alone.ensures refl))
+
 pub returns-in_err-volume-clause-counts : goal.returns-in_err-volume-clause-counts
 returns-in_err-volume-clause-counts g c =
     rw (given_error _ _ c.from_residual.ensures.1) (reads_of_image c.in_err-volume.ensures.reads.1)
@@ -64,6 +69,9 @@ returns-in_err-passphrase-clause-work g c =
 pub returns-in_err-passphrase-clause-unneeded : goal.returns-in_err-passphrase-clause-unneeded
 returns-in_err-passphrase-clause-unneeded g c known is none =
     absurd (there_is_volume c.args.location _ _ _ _ _ _ known (rw c.pbkdf2_alone.ensures at c.in_ok-volume.ensures.found) is none)
+
+pub returns-in_err-passphrase-clause-plain : goal.returns-in_err-passphrase-clause-plain
+returns-in_err-passphrase-clause-plain g c = rw (given_error _ _ c.from_residual-in_err-passphrase.ensures.1) tt
 
 pub returns-in_err-passphrase-clause-counts : goal.returns-in_err-passphrase-clause-counts
 returns-in_err-passphrase-clause-counts g c =
@@ -91,6 +99,17 @@ returns-in_err-opened-clause-err g c =
 pub returns-in_err-opened-clause-unneeded : goal.returns-in_err-opened-clause-unneeded
 returns-in_err-opened-clause-unneeded g c known is none =
     absurd (there_is_volume c.args.location _ _ _ _ _ _ known (rw c.pbkdf2_alone.ensures at c.in_ok-volume.ensures.found) is none)
+
+pub returns-in_err-opened-clause-plain : goal.returns-in_err-opened-clause-plain
+returns-in_err-opened-clause-plain g c =
+    let slots = rw c.pbkdf2_alone.ensures at c.in_ok-volume.ensures.found.slots in
+    let pbkdf2 = All-IsPbkdf2 c.in_ok-volume.volume.header (pbkdf2_alone c.args.slots).named
+    (pbkdf2_alone c.args.slots).limits c.in_ok-volume.volume.order slots.order c.in_ok-volume.volume.segment
+    slots.segment refl in
+    rw (given_error _ _ c.from_residual-in_err-opened.ensures.1)
+    (plain_tries (pbkdf2_alone c.args.slots) c.in_ok-volume.volume slots refl _ _ c.in_err-opened.field-0.0
+    (not_refused c.in_err-opened.field-0.0 _ (λ slot memory refused. never_stops _ _ _ _ _ _ pbkdf2 refused.stops)
+    c.in_err-opened.ensures.refused) c.in_err-opened.ensures.tries)
 
 pub returns-in_err-opened-clause-counts : goal.returns-in_err-opened-clause-counts
 returns-in_err-opened-clause-counts g c =
