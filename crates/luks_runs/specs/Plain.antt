@@ -18,8 +18,8 @@ abbrev pub is_of_argon2 : SkipReason → Bool
 is_of_argon2 Argon2Time = true
 is_of_argon2 Argon2Cpus = true
 is_of_argon2 Argon2Memory = true
-is_of_argon2 Argon2MemoryLimit = true
-is_of_argon2 Argon2FillLimit = true
+is_of_argon2 (Argon2MemoryLimit kib) = true
+is_of_argon2 (Argon2FillLimit kib) = true
 is_of_argon2 _ = false
 
 -- no key slot is skipped for such a reason
