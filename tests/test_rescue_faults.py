@@ -174,6 +174,50 @@ def test_map_of_the_image(rescue, volume, kinds, lines, lost):
     assert (rescue.folder / "plain").read_bytes() == with_zeros(plain, places)
 
 
+@pytest.fixture
+def lacking(rescue, volume, kinds, tmp_path):
+    """A whole image as `whole.img`, and its copy by ddrescue, which lacks 1024 bytes, with its map, decrypted into
+    `plain`. Gives the plaintext, and the map's lines for a disk whose status of those bytes it is given."""
+    plain = kinds.text("luks2 xts-plain64 512 512")
+    image = volume("luks2 xts-plain64 512 512")
+    copy_of(image, tmp_path / "whole.img")
+    volumes.overwrite(image, START + 4096, bytes(1024))
+    left = image.stat().st_size - START - 5120
+
+    def lines(status):
+        return f"0 + 1\n0 {START + 4096} +\n{START + 4096} 1024 {status}\n{START + 5120} {left} +\n"
+
+    (tmp_path / "disk's map").write_text(lines("-"))
+    ended = rescue(*DECRYPT, "-o", "plain", "--image-map", "disk's map")
+    says(ended, f"plain: 1 KiB of {sized(len(plain))} are missing; after another ddrescue, "
+         "--image-map 'disk'\"'\"'s map' --retry plain.map tries them again\n", status=6)
+    assert (tmp_path / "plain").read_bytes() == with_zeros(plain, [(4096, 1024)])
+    return plain, lines
+
+
+@pytest.mark.parametrize("words", [["--resume"], ["--retry", "plain.map"]])
+def test_map_of_the_image_is_named_again(rescue, lacking, tmp_path, words):
+    """Without it the zeros of the image would become noise."""
+    before = {name: (tmp_path / name).read_bytes() for name in ("plain", "plain.map")}
+    says(rescue(*DECRYPT, "-o", "plain", *words), "plain.map: is of a run with --image-map disk's map: ", status=1)
+    says(rescue(*DECRYPT, "-o", "other", "--map", "plain.map", "--resume"), "--image-map disk's map", status=1)
+    assert before == {name: (tmp_path / name).read_bytes() for name in before}
+    assert not (tmp_path / "other").exists()
+    says(rescue(*DECRYPT, "-o", "plain", "--image-map", "disk's map", *words), status=6)
+    assert (tmp_path / "plain").read_bytes() == before["plain"]
+
+
+def test_retry_after_another_ddrescue(rescue, lacking, tmp_path):
+    """What the image and its map have by then is filled in, and the new map is not forgotten."""
+    plain, lines = lacking
+    copy_of(tmp_path / "whole.img", tmp_path / "disk.img")
+    command = [*DECRYPT, "-o", "plain", "--image-map", "better.map", "--retry", "plain.map"]
+    (tmp_path / "better.map").write_text(lines("+"))
+    says(rescue(*command), status=0)
+    assert (tmp_path / "plain").read_bytes() == plain and lost_in_map(tmp_path / "plain.map") == []
+    says(rescue(*DECRYPT, "-o", "plain", "--retry", "plain.map"), "a run with --image-map better.map", status=1)
+
+
 @pytest.mark.of_script
 @pytest.mark.parametrize("text, line", [
     ("", 0), ("nonsense\n", 1), ("0 + 1\n0 10\n", 2), ("0 + 1\n0 10 x\n", 2), ("0 + 1\n0 0 +\n", 2),

@@ -20,7 +20,7 @@ examples:
   luksrd-rescue decrypt laptop.img -o plain.img
   luksrd-rescue decrypt laptop.img --partition 3 -o plain.img --image-map laptop.map
   luksrd-rescue decrypt laptop.img -o plain.img --resume
-  luksrd-rescue decrypt laptop.img -o plain.img --retry plain.img.map
+  luksrd-rescue decrypt laptop.img -o plain.img --image-map laptop.map --retry plain.img.map
   luksrd-rescue decrypt disk.img --header backup -o plain.img
   luksrd-rescue decrypt disk.img --volume-key-file volume.key --payload-offset 16Mi -o plain.img
   luksrd-rescue decrypt laptop.img --lv vg0/root -o root.img
@@ -81,7 +81,8 @@ def _add_running_options(parser: argparse.ArgumentParser) -> None:
     again = group.add_mutually_exclusive_group()
     again.add_argument("--resume", action="store_true", help="go on where the map says")
     again.add_argument("--retry", metavar="MAP",
-                       help="go on by this map, and try what is lost again")
+                       help="go on by this map, and try what is lost again; with --image-map again, "
+                       "if there was one")
     group.add_argument("--force", action="store_true",
                        help="overwrite an existing FILE or a device")
     group.add_argument("--quiet", action="store_true", help="show no progress")
@@ -189,7 +190,7 @@ def _begin(arguments: argparse.Namespace, volume: choosing.Volume, payload: work
     is_new = done is None
     if done is None:
         done = maps.Map(length)
-    done.comments = identity.comments(arguments.image)
+    done.comments = identity.comments(arguments.image, arguments.image_map)
     target.warn_of_room(length - done.count(maps.DONE))
     return _Begun(payload, working.laid_out(pieces), length, done, map_path, is_new)
 
@@ -233,14 +234,25 @@ def _report(arguments: argparse.Namespace, volume: choosing.Volume, begun: _Begu
     if missing:
         say(image, missing)
     if bad:
-        how = f"; --retry {shown(begun.map_path)} tries them again" if begun.map_path else ""
-        say(arguments.output, f"{sized(bad)} of {sized(begun.length)} are missing{how}")
+        say(arguments.output, f"{sized(bad)} of {sized(begun.length)} are missing"
+            f"{_again(arguments, begun)}")
     if arguments.output != "-":
         _describe(arguments, begun)
     if not bad and begun.map_path is not None and arguments.map is None and arguments.retry is None:
         with contextlib.suppress(OSError):
             os.unlink(begun.map_path)
     return FAILED if bad else IMAGE if missing else 0
+
+
+def _again(arguments: argparse.Namespace, begun: _Begun) -> str:
+    """How what is missing is tried again: with a map of the image, only what ddrescue has read by
+    then is new."""
+    if not begun.map_path:
+        return ""
+    retry = f"--retry {quoted(begun.map_path)} tries them again"
+    if arguments.image_map is None:
+        return f"; {retry}"
+    return f"; after another ddrescue, --image-map {quoted(arguments.image_map)} {retry}"
 
 
 def _missing(arguments: argparse.Namespace, volume: choosing.Volume, begun: _Begun) -> str:

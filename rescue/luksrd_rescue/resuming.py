@@ -12,6 +12,7 @@ from .command import USAGE, Refusal, shown
 from .writing import Kept, Target
 
 _MARK = "luksrd-rescue: "
+_IMAGE_MAP = "Image map: "
 
 
 class Identity(NamedTuple):
@@ -26,11 +27,12 @@ class Identity(NamedTuple):
         pieces = ",".join(f"{offset}:{length}" for offset, length in self.pieces)
         return f"{_MARK}uuid={shown(self.uuid) or '-'} payload={self.payload} plaintext={pieces}"
 
-    def comments(self, image: str) -> list[str]:
-        """The comments of the map."""
+    def comments(self, image: str, image_map: Optional[str]) -> list[str]:
+        """The comments of the map, of a run with this map of the image or without one."""
         return [f"Mapfile. Created by luksrd-rescue {__version__}",
                 "Positions are those of the output: the bytes named below, one after the other",
-                f"Image: {shown(image)}", self._line()]
+                f"Image: {shown(image)}",
+                *([] if image_map is None else [f"{_IMAGE_MAP}{shown(image_map)}"]), self._line()]
 
     def differs_from(self, comments: list[str]) -> Optional[str]:
         """What of a map with these comments is another one, or None."""
@@ -48,6 +50,15 @@ class Identity(NamedTuple):
 
 def _fields(line: str) -> dict[str, str]:
     return dict(word.partition("=")[::2] for word in line.removeprefix(_MARK).split(" "))
+
+
+def _check_image_map(source: str, comments: list[str], arguments: argparse.Namespace) -> None:
+    """Refuses to go on without a map of the image if the earlier run had one: the zeros that the
+    image has in place of what was not read would be decrypted to noise."""
+    names = [it.removeprefix(_IMAGE_MAP) for it in comments if it.startswith(_IMAGE_MAP)]
+    if names and arguments.image_map is None:
+        raise Refusal(USAGE, source, f"is of a run with --image-map {names[0]}: name the image's map "
+                      "again, or what it lacks becomes noise")
 
 
 def check_map_path(path: Optional[str], target: Target, kept: list[Kept],
@@ -92,6 +103,7 @@ def earlier(path: str, identity: Identity, target: Target,
         raise Refusal(USAGE, source, difference)
     if found.size != length:
         raise Refusal(USAGE, source, f"is of {found.size} bytes, not {length}")
+    _check_image_map(source, found.comments, arguments)
     if target.is_there:
         return found
     if arguments.retry is not None:
