@@ -3,7 +3,7 @@
 # are left to readline, which knows how to quote them.
 _luksrd_rescue() {
     local current=${COMP_WORDS[COMP_CWORD]} before=${COMP_WORDS[COMP_CWORD - 1]} offers='' IFS=$' \t\n'
-    local choice='--partition --offset --length --header' key='--key-file --volume-key-file --key-slot
+    local choice='--image-map --partition --offset --length --header' key='--key-file --volume-key-file --key-slot
         --cipher --payload-offset --sector-size'
     COMPREPLY=()
     if [ "$COMP_CWORD" = 1 ]; then
@@ -30,9 +30,9 @@ _luksrd_rescue() {
         fi
         case ${COMP_WORDS[1]} in
         look) offers='--json --search' ;;
-        decrypt) offers="--output --lv --range --image-map --map --resume --retry --force --quiet $choice $key" ;;
+        decrypt) offers="--output --lv --range --map --resume --retry --force --quiet $choice $key" ;;
         try) offers="--candidates --state --jobs --key-slot --max-iterations --quiet $choice" ;;
-        serve) offers="--image-map --quiet $choice $key" ;;
+        serve) offers="--quiet $choice $key" ;;
         *) return ;;
         esac
         offers+=' --help' ;;

@@ -221,6 +221,55 @@ def test_another_form(rescue, laptop, tmp_path, ending):
     assert content[:len(wanted)] == wanted and not any(content[len(wanted):])
 
 
+# ---- a map of ddrescue beside the image
+
+def next_with(rescue, option):
+    """Whether each of the next commands has this option."""
+    commands = found_in(rescue, "disk.img")["next"]
+    assert commands == [f"luksrd-rescue decrypt disk.img{option} -o plain.img",
+                        f"luksrd-rescue serve disk.img{option} plain",
+                        f"luksrd-rescue try disk.img{option} --candidates LIST"]
+
+
+@pytest.mark.parametrize("name", ["disk.map", "disk.img.map"])
+@needs("ddrescue")
+def test_a_map_beside_the_image(rescue, laptop, tmp_path, name):
+    """What comes next has it, and without it the others warn if it lacks sectors."""
+    must("ddrescue", "-q", "--size", str(20 * MIB), laptop.disk, "disk.img", name, cwd=tmp_path)
+    (tmp_path / "wrong").write_bytes(b"wrong")
+    next_with(rescue, f" --image-map {name}")
+    warned = (f"luksrd-rescue: {name}: beside the image lists sectors that were not read, and without it they become "
+              f"noise: --image-map {name}\n")
+    decrypt = ["decrypt", "disk.img", "--key-file", "wrong", "-o", "plain"]
+    tries = ["try", "disk.img", "--candidates", "wrong"]
+    for command in decrypt, tries:
+        assert warned not in rescue(*command).message
+        assert warned not in rescue(*command, "--image-map", name).message
+    # (it was longer when ddrescue read it)
+    os.truncate(tmp_path / "disk.img", 21 * MIB)
+    for command in decrypt, tries:
+        ended = rescue(*command)
+        assert ended.status == 2 and ended.message.startswith(warned), ended
+        assert warned not in rescue(*command, "--image-map", name).message
+
+
+@pytest.mark.parametrize("text", [
+    "# Mapfile. Created by luksrd-rescue 1.2.0\n0 + 1\n0 512 +\n", "0 + 1\n0 512 +\n", "nonsense\n", "",
+    "# Mapfile. Created by GNU ddrescue version 1.27\nnonsense\n"])
+def test_another_map_beside_the_image(rescue, laptop, tmp_path, text):
+    """Only ddrescue's is one of the image: luksrd-rescue's own is of a plaintext."""
+    copy_of(laptop.disk, tmp_path / "disk.img")
+    (tmp_path / "disk.map").write_text(text)
+    (tmp_path / "disk.img.map").mkdir()
+    (tmp_path / "wrong").write_bytes(b"wrong")
+    next_with(rescue, "")
+    assert "map" not in rescue("try", "disk.img", "--candidates", "wrong").message
+    (tmp_path / "disk.img.map").rmdir()
+    (tmp_path / "disk.img.map").write_text("# Rescue Logfile. Created by GNU ddrescue version 1.14\n0 + 1\n0 512 +\n")
+    next_with(rescue, " --image-map disk.img.map")
+    assert "--image-map disk.img.map" in rescue("try", "disk.img", "--candidates", "wrong").message
+
+
 # ---- headers
 
 def test_a_volume(rescue, kinds):

@@ -108,6 +108,16 @@ def test_a_map_of_the_image(serve, kinds, tmp_path):
             assert os.pread(file.fileno(), 4096, 1 << 17) == text[1 << 17:(1 << 17) + 4096]
 
 
+def test_a_map_beside_the_image(serve, kinds, tmp_path):
+    """It warns that the map is not used."""
+    image = copy_of(kinds / VOLUME1, tmp_path / "disk.img")
+    (tmp_path / "disk.map").write_text("# Mapfile. Created by GNU ddrescue version 1.27\n0 + 1\n0 512 -\n")
+    with serve("disk.img", "--key-file", kinds / "pass2") as served:
+        assert served.path.stat().st_size == len(kinds.text(VOLUME1))
+        assert "luksrd-rescue: disk.map: beside the image lists sectors that were not read" in served.said()
+    assert image.exists()
+
+
 def test_a_bad_sector_in_the_header(serve, kinds, bad_sectors, tmp_path):
     """The other header is used, by nbdkit too."""
     image = copy_of(kinds / VOLUME2, tmp_path / "disk.img")

@@ -111,6 +111,19 @@ def test_in_a_partition(tries, volume_of, tmp_path):
     assert (ended.status, ended.message) == (4, "luksrd-rescue: disk: there is no LUKS header\n")
 
 
+def test_a_map_of_the_image(tries, volume_of, tmp_path):
+    """A key area with sectors that were not read is not taken for key material, and the next command has the map."""
+    size = volume_of(0).stat().st_size
+    (tmp_path / "map").write_text(f"0 + 1\n0 {size - 512} +\n{size - 512} 512 -\n")
+    ended = opens(tries("--image-map", "map"))
+    assert "luksrd-rescue decrypt volume --image-map map --key-file key -o plain.img" in ended.output.decode()
+    (tmp_path / "map").write_text(f"0 + 1\n0 4608 +\n4608 512 -\n5120 {size - 5120} +\n")
+    ended = tries("--image-map", "map")
+    assert (ended.status, ended.output) == (6, b"")
+    assert "key slot 0 is left out: its key area has sectors that cannot be read" in ended.message
+    assert "the key areas of all slots have sectors that cannot be read" in ended.message
+
+
 def test_a_pipe_and_a_last_line_without_a_newline(tries):
     ended = opens(tries(lines="-", stdin=ODD[0]), 1)
     assert ended.output == b"line 1 opens key slot 0\n"

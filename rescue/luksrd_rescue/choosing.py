@@ -3,7 +3,7 @@
 import argparse
 from typing import NamedTuple, Optional
 
-from . import audit, partitions, terminal
+from . import audit, image_maps, partitions, terminal
 from .command import Refusal, number, shown, sized
 from .words import quoted
 
@@ -54,6 +54,14 @@ def words_of(arguments: argparse.Namespace) -> str:
     return "".join(f" --{name} {quoted(str(getattr(arguments, name)))}"
                    for name in ("partition", "offset", "length", "header")
                    if getattr(arguments, name) is not None)
+
+
+def again(arguments: argparse.Namespace) -> str:
+    """The image with these options and with its map, as another command takes them."""
+    words = f"{quoted(arguments.image)}{words_of(arguments)}"
+    if arguments.image_map is None:
+        return words
+    return f"{words} --image-map {quoted(arguments.image_map)}"
 
 
 def find_volumes(image, partition: Optional[int] = None, offset: Optional[int] = None,
@@ -128,6 +136,7 @@ def _with_header(image, facts: audit.Found) -> Volume:
 def choose(image, arguments: argparse.Namespace) -> Volume:
     """The volume that the options name, or the only one. Several are listed, and refused. With the
     volume key and the payload's offset it needs no header: then it begins where the image does."""
+    image_maps.warn(image, arguments)
     if getattr(arguments, "payload_offset", None) is not None and not words_of(arguments):
         return _in_range(image, 0, None, None)
     volumes = find_volumes(image, arguments.partition, arguments.offset, arguments.length,

@@ -110,6 +110,8 @@ def subcommand(subparsers: argparse._SubParsersAction, name: str,
     parser = subparsers.add_parser(name, help=summary, epilog=examples, description=description)
     parser.add_argument("image", metavar="IMAGE",
                         help="a file or a device: a whole disk or a volume")
+    parser.add_argument("--image-map", metavar="MAP",
+                        help="ddrescue's map of IMAGE: what it has not finished is lost")
     parser.set_defaults(run=run)
     return parser
 

@@ -73,8 +73,6 @@ def _add_part_options(parser: argparse.ArgumentParser) -> None:
 
 def _add_running_options(parser: argparse.ArgumentParser) -> None:
     group = parser.add_argument_group("running")
-    group.add_argument("--image-map", metavar="MAP",
-                       help="ddrescue's map of IMAGE: what it has not finished is lost")
     group.add_argument("--map", metavar="MAP",
                        help="note here, as ddrescue does, what is done and what is lost; without "
                        "it in FILE.map, which is deleted if nothing is lost")
@@ -277,8 +275,7 @@ def _describe(arguments: argparse.Namespace, begun: _Begun) -> None:
     try:
         with open_image(arguments.output) as written:
             found = contents.identify(written, arguments.output)
-        again = f"luksrd-rescue decrypt {quoted(arguments.image)}{choosing.words_of(arguments)}"
-        for line in contents.lines(found, again):
+        for line in contents.lines(found, f"luksrd-rescue decrypt {choosing.again(arguments)}"):
             print(line)
     except (Refusal, OSError, ValueError, LookupError) as error:
         say(arguments.output, f"what it is was not found out: {getattr(error, 'why', error)}")

@@ -5,7 +5,7 @@ import json
 import os
 from typing import Any, NamedTuple, Optional
 
-from . import audit, choosing, contents, partitions, terminal, tools
+from . import audit, choosing, contents, image_maps, partitions, terminal, tools
 from .command import FAILED, IMAGE, Refusal, say, shown, sized
 from .containers import Container, container
 from .image import open_image
@@ -286,6 +286,9 @@ def _volume_steps(report: Report, volume: choosing.Volume, must_choose: bool) ->
     options = [volume.options()] if must_choose or report.searched else []
     if not any(slot.is_by_itself for slot in slots):
         options.append(f"--key-slot {slots[0].number}")
+    image_map = image_maps.beside(report.path)
+    if image_map:
+        options.append(image_map.option())
     image = " ".join([quoted(report.path), *filter(None, options)])
     plain, folder = contents.free_name("plain.img"), contents.free_name("plain")
     decrypt = Step(f"Decrypt {volume.words()} into a file",

@@ -36,11 +36,9 @@ def register(subparsers) -> None:
     parser = subcommand(
         subparsers, "serve", run, EXAMPLES, "show the plaintext as a file, without a copy",
         "Show the plaintext of a volume as the read-only file DIR/plain, until Ctrl-C or "
-        "`umount DIR`.\nIt needs nbdkit, nbdfuse and luksrd's filter for nbdkit.")
+        "`umount DIR`.\nA read of what is lost fails. It needs nbdkit, nbdfuse and luksrd's filter for nbdkit.")
     parser.add_argument("folder", metavar="DIR",
                         help="an empty folder, or one that is not there yet")
-    parser.add_argument("--image-map", metavar="FILE",
-                        help="the map of ddrescue: what it does not have is a read error")
     parser.add_argument("--quiet", action="store_true", help="show no progress")
     choosing.add_options(parser)
     unlocking.add_options(parser)
@@ -292,7 +290,7 @@ def _allows_others() -> bool:
 
 def _lines(plain: str, opened, arguments: argparse.Namespace, can_mount: bool) -> list[str]:
     """What is in the file, and what to type next."""
-    decrypt = f"luksrd-rescue decrypt {quoted(arguments.image)}{choosing.words_of(arguments)}"
+    decrypt = f"luksrd-rescue decrypt {choosing.again(arguments)}"
     lines = contents.lines(contents.identify(opened, plain), decrypt, can_mount)
     if not can_mount:
         lines.append(f"Root cannot read {plain}, since FUSE shows it to you alone. To mount it, "

@@ -127,7 +127,8 @@ class _Attempt:
         if facts.fault:
             raise Refusal(USAGE, self._image.path,
                           f"luksrd does not read this volume: {facts.fault}")
-        self._slots = [slot for slot in self._wanted(facts) if self._is_there(slot)]
+        self._slots = [slot for slot in self._wanted(facts)
+                       if is_there(self._image.path, facts, head, slot)]
         if not self._slots:
             raise self._nothing_to_try(facts)
 
@@ -145,20 +146,6 @@ class _Attempt:
         numbers = ", ".join(str(it.number) for it in facts.slots) or "none"
         raise Refusal(USAGE, self._image.path,
                       f"key slot {wanted} is not in use; in use: {numbers}")
-
-    def _is_there(self, slot: Slot) -> bool:
-        """Whether the key material of a slot can be read, and what LUKS1, which has no checksum,
-        has of it in the header; says so if not."""
-        start = _SLOTS1 + slot.number * _SLOT1_BYTES
-        if self._facts.version == 1 and self._head.is_lost(start, _SLOT1_BYTES):
-            say(self._image.path, f"key slot {slot.number} is left out: its part of the header "
-                "cannot be read")
-            return False
-        is_lost = self._head.is_lost(slot.area_offset, slot.area_length)
-        if is_lost:
-            say(self._image.path, f"key slot {slot.number} is left out: its key area has sectors "
-                "that cannot be read")
-        return not is_lost
 
     def _nothing_to_try(self, facts: Found) -> Refusal:
         if any(it.can_try and self._head.is_lost(it.area_offset, it.area_length)
@@ -276,6 +263,20 @@ class _Attempt:
                     "it is not, the plaintext is noise")
             return found
         return opened
+
+
+def is_there(path: str, facts: Found, head: Head, slot: Slot) -> bool:
+    """Whether the key material of a slot can be read, and what LUKS1, which has no checksum, has of
+    it in the header; says so if not."""
+    start = _SLOTS1 + slot.number * _SLOT1_BYTES
+    if facts.version == 1 and head.is_lost(start, _SLOT1_BYTES):
+        say(path, f"key slot {slot.number} is left out: its part of the header cannot be read")
+        return False
+    is_lost = head.is_lost(slot.area_offset, slot.area_length)
+    if is_lost:
+        say(path, f"key slot {slot.number} is left out: its key area has sectors that cannot be "
+            "read")
+    return not is_lost
 
 
 def geometry(arguments: argparse.Namespace, facts: Optional[Found], path: str) -> dict:
