@@ -313,6 +313,18 @@ def test_bad_sectors_of_luks1(rescue, volume, kinds, bad_sectors):
         assert (rescue.folder / f"plain{number}").read_bytes() == kinds.text(VOLUME1)
 
 
+def test_header_under_another_file(rescue, volume, kinds, tmp_path):
+    """A disk whose beginning somebody has written a file over is no such file, if --offset says so."""
+    image = volume(VOLUME2)
+    volumes.cryptsetup("luksHeaderBackup --header-backup-file backup", image, cwd=tmp_path)
+    volumes.overwrite(image, 0, b"\xfd7zXZ\0" + bytes(40000))
+    command = [*DECRYPT, "--header", "backup", "-o", "plain"]
+    says(rescue(*command), "is compressed by xz (if not, --offset says where the volume begins)", status=4)
+    assert not (tmp_path / "plain").exists()
+    says(rescue(*command, "--offset", "0"), "disk.img: seems to be compressed by xz", status=0)
+    assert (tmp_path / "plain").read_bytes() == kinds.text(VOLUME2)
+
+
 def test_map_of_the_image_and_the_header(rescue, volume, kinds):
     """A map that misses the first header."""
     image = volume(VOLUME2)

@@ -212,6 +212,12 @@ def test_another_form(rescue, laptop, tmp_path, ending):
     lines = text_of(rescue, name, status=4).splitlines()
     assert (QEMU | PACKED)[ending] in lines[0]
     assert [line[:4] for line in lines[1:]] == ["    "] * 2
+    for words in ["decrypt", name, "-o", "plain"], ["try", name, "--candidates", "/dev/null", "--partition", "5"]:
+        ended = rescue(*words)
+        assert ended.message.splitlines() == [
+            f"luksrd-rescue: {name}: is {(QEMU | PACKED)[ending]} (if not, --offset says where the volume begins). "
+            "Write the image out first:", *lines[1:]]
+        assert (ended.status, ended.output) == (4, b"") and not (tmp_path / "plain").exists()
     must("bash", "-c", lines[1], cwd=tmp_path)
     raw = lines[2].split()[-1]
     assert lines[2] == f"    luksrd-rescue look {raw}"

@@ -11,7 +11,7 @@ import pytest
 from disks import LUKS, MIB, disk, row
 from kinds import ESSIV, KINDS, VOLUME1, VOLUME2, volume_key_options
 from rescuing import Terminal, says
-from support import needs, processes_of, run, wait_until
+from support import must, needs, processes_of, run, wait_until
 from volumes import PASS, copy_of
 
 pytestmark = needs("nbdkit", "nbdfuse", "fusermount3", "fuse")
@@ -116,6 +116,14 @@ def test_a_map_beside_the_image(serve, kinds, tmp_path):
         assert served.path.stat().st_size == len(kinds.text(VOLUME1))
         assert "luksrd-rescue: disk.map: beside the image lists sectors that were not read" in served.said()
     assert image.exists()
+
+
+@needs("qemu-img")
+def test_another_form(rescue, serve, kinds, tmp_path):
+    must("qemu-img", "convert", "-f", "raw", "-O", "qcow2", kinds / VOLUME1, tmp_path / "disk.qcow2")
+    says(rescue("serve", "disk.qcow2", "plain"), "disk.qcow2: is a qcow2 image (if not, ", "Write the image out first:",
+         "    luksrd-rescue look disk.img", status=4)
+    assert not (tmp_path / "plain").exists()
 
 
 def test_a_bad_sector_in_the_header(serve, kinds, bad_sectors, tmp_path):

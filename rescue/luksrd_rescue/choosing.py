@@ -3,7 +3,7 @@
 import argparse
 from typing import NamedTuple, Optional
 
-from . import audit, image_maps, partitions, terminal
+from . import audit, containers, image_maps, partitions, terminal
 from .command import Refusal, number, shown, sized
 from .words import quoted
 
@@ -136,6 +136,7 @@ def _with_header(image, facts: audit.Found) -> Volume:
 def choose(image, arguments: argparse.Namespace) -> Volume:
     """The volume that the options name, or the only one. Several are listed, and refused. With the
     volume key and the payload's offset it needs no header: then it begins where the image does."""
+    containers.refuse(image, arguments.offset is not None)
     image_maps.warn(image, arguments)
     if getattr(arguments, "payload_offset", None) is not None and not words_of(arguments):
         return _in_range(image, 0, None, None)

@@ -4,6 +4,7 @@ import os
 from typing import NamedTuple, Optional
 
 from . import tools
+from .command import IMAGE, Refusal, say
 from .contents import free_name
 from .words import quoted
 
@@ -54,6 +55,10 @@ class Container(NamedTuple):
     name: str
     commands: list[str]
 
+    def advice(self) -> list[str]:
+        """What to do first, on lines of its own after the name."""
+        return ["Write the image out first:", *(f"    {command}" for command in self.commands)]
+
 
 def container(image) -> Optional[Container]:
     """The form of this image, or None if it is none of these."""
@@ -63,6 +68,20 @@ def container(image) -> Optional[Container]:
         if first[:got][form.offset:].startswith(form.magic):
             return Container(form.name, _commands(form, image.path))
     return None
+
+
+def refuse(image, is_raw: bool) -> None:
+    """Refuses an image in another form, which would be decrypted to noise. With `is_raw` its user
+    knows better, and it says only what it is like."""
+    found = container(image)
+    if found and is_raw:
+        say(image.path, f"seems to be {found.name}: then the plaintext is noise, and it has to be "
+            "written out first")
+    elif found:
+        first, *commands = found.advice()
+        raise Refusal(IMAGE, image.path, "\n".join([
+            f"is {found.name} (if not, --offset says where the volume begins). {first}",
+            *commands]))
 
 
 def _commands(form: Form, path: str) -> list[str]:

@@ -162,9 +162,8 @@ def as_text(report: Report) -> list[str]:
     """The lines for people, and the next commands at their end."""
     name = shown(report.path)
     if report.container:
-        found = f"{name} is {report.container.name}, {sized(report.size)}"
-        return [f"{found}. Write the image out first:",
-                *_indented(report.container.commands)]
+        first, *commands = report.container.advice()
+        return [f"{name} is {report.container.name}, {sized(report.size)}. {first}", *commands]
     lines = [f"{name}: {sized(report.size)}, {_what(report)}"]
     lines += [f"  {line}" for line in report.inside]
     for part in report.parts:
@@ -174,10 +173,6 @@ def as_text(report: Report) -> list[str]:
     if not report.is_whole:
         lines.append("  a read failed before its end: headers after that are not listed")
     return [*lines, *_step_lines(report)]
-
-
-def _indented(lines: list[str]) -> list[str]:
-    return [f"    {line}" for line in lines]
 
 
 def _what(report: Report) -> str:
