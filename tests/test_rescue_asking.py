@@ -38,7 +38,8 @@ def test_key_file_that_cannot_be(rescue, disk2, name, status, text):
 
 
 def test_no_terminal(rescue, disk2):
-    says(rescue("decrypt", disk2, "-o", "plain"), "there is no terminal to ask for a passphrase at", status=1)
+    says(rescue("decrypt", disk2, "-o", "plain"), "no terminal to ask at: use --key-file FILE, or --key-file - for "
+         "standard input", status=1)
 
 
 def test_typed(rescue, disk2, kinds):

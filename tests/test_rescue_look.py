@@ -157,7 +157,11 @@ def test_a_lost_table(rescue, laptop, kinds, tmp_path):
     overwrite(tmp_path / "lost.img", 15 * MIB + 512, (kinds / VOLUME1).read_bytes())
     found = found_in(rescue, "lost.img")
     assert found["searched"] and [each["offset"] for each in found["volumes"]] == [3 * MIB, 15 * MIB + 512]
-    assert f"luksrd-rescue decrypt lost.img --offset {15 * MIB + 512} -o plain.img" in found["next"]
+    assert [each for each in found["next"] if "candidates" not in each] == [
+        f"luksrd-rescue decrypt lost.img --offset {3 * MIB} -o plain.img",
+        f"luksrd-rescue serve lost.img --offset {3 * MIB} plain",
+        f"luksrd-rescue decrypt lost.img --offset {15 * MIB + 512} -o plain2.img",
+        f"luksrd-rescue serve lost.img --offset {15 * MIB + 512} plain2"]
     assert "searched for LUKS headers: 2 found" in text_of(rescue, "lost.img") \
         or "without a partition table; searched for LUKS headers: 2 found" in text_of(rescue, "lost.img")
     # one alone is chosen by its place, too, since the search takes long

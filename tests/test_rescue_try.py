@@ -85,12 +85,16 @@ def test_the_next_command(tries, rescue, tmp_path):
     ended = opens(tries(lines="it's the list"), 2)
     assert ended.message == ("luksrd-rescue: it's the list: line 1 ends with a carriage return, as Windows writes it: "
                              "it is taken off, and so are others\n")
-    key, decrypt = [line.strip() for line in ended.output.decode().splitlines()[2:]]
+    key, decrypt, remove = [line.strip() for line in ended.output.decode().splitlines()[2:]]
     assert run("bash", "-c", key, cwd=tmp_path) == (0, b"", "")
     assert ((tmp_path / "key").read_bytes(), (tmp_path / "key").stat().st_mode & 0o777) == (ODD[0], 0o600)
     assert decrypt == "luksrd-rescue decrypt volume --key-file key -o plain.img"
     assert rescue(*decrypt.split()[1:]).status == 0
     assert (tmp_path / "plain.img").stat().st_size == MIB
+    assert run("bash", "-c", remove, cwd=tmp_path) == (0, b"", "") and not (tmp_path / "key").exists()
+    # (a file with this name is another one)
+    (tmp_path / "key").write_bytes(b"mine")
+    assert all("key2" in line for line in opens(tries()).output.decode().splitlines()[2:])
 
 
 @pytest.mark.parametrize("name", ["detached1", "detached2"])

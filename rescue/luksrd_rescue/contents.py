@@ -1,7 +1,8 @@
 """What a plaintext is, as blkid sees it, and the command that looks into it."""
 
+import itertools
 import os
-from typing import NamedTuple, Optional
+from typing import Iterator, NamedTuple, Optional
 
 from . import partitions, tools
 from .command import sized
@@ -222,8 +223,13 @@ def _commands(found: Contents, can_mount: bool) -> list[str]:
     return commands
 
 
-def free_name(name: str) -> str:
-    """This name, or one like it that no file has yet."""
+def free_names(name: str) -> Iterator[str]:
+    """This name and ones like it, all those that no file has yet."""
     stem, ending = os.path.splitext(name)
-    names = [name, *(f"{stem}{number}{ending}" for number in range(2, 1000))]
-    return next((each for each in names if not os.path.lexists(each)), name)
+    names = (f"{stem}{number}{ending}" for number in itertools.count(2))
+    return (each for each in itertools.chain([name], names) if not os.path.lexists(each))
+
+
+def free_name(name: str) -> str:
+    """The first of these names."""
+    return next(free_names(name))

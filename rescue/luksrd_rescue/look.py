@@ -262,9 +262,11 @@ def _step_lines(report: Report) -> list[str]:
 def steps(report: Report) -> list[Step]:
     """The commands to type next, with their real names and numbers."""
     whole = [each for each in report.volumes if not each.is_header_only]
-    found = [step for each in whole for step in _volume_steps(report, each, len(whole) > 1)]
+    outputs = zip(contents.free_names("plain.img"), contents.free_names("plain"))
+    found = [step for each in whole
+             for step in _volume_steps(report, each, len(whole) > 1, next(outputs))]
     if len(whole) < len(report.volumes):
-        plain = contents.free_name("plain.img")
+        plain, _ = next(outputs)
         found.append(Step("With IMAGE, the file or disk that it belongs to, in place of that word",
                           f"luksrd-rescue decrypt IMAGE --header {quoted(report.path)} -o {plain}"))
     if not report.volumes and not report.searched and not report.container:
@@ -273,8 +275,10 @@ def steps(report: Report) -> list[Step]:
     return found
 
 
-def _volume_steps(report: Report, volume: choosing.Volume, must_choose: bool) -> list[Step]:
-    """What to do with a volume: decrypt it if there is room, and serve it otherwise."""
+def _volume_steps(report: Report, volume: choosing.Volume, must_choose: bool,
+                  outputs: tuple[str, str]) -> list[Step]:
+    """What to do with a volume: decrypt it into the first of these outputs if there is room, and
+    serve it in the other one otherwise."""
     slots = [slot for slot in volume.facts.slots if slot.opens]
     if volume.facts.fault or not slots:
         return []
@@ -285,7 +289,7 @@ def _volume_steps(report: Report, volume: choosing.Volume, must_choose: bool) ->
     if image_map:
         options.append(image_map.option())
     image = " ".join([quoted(report.path), *filter(None, options)])
-    plain, folder = contents.free_name("plain.img"), contents.free_name("plain")
+    plain, folder = outputs
     decrypt = Step(f"Decrypt {volume.words()} into a file",
                    f"luksrd-rescue decrypt {image} -o {plain}")
     serve = Step("Or show the plaintext as a file, without a copy",

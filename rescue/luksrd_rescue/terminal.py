@@ -103,8 +103,8 @@ def ask(prompt: str) -> bytearray:
     try:
         descriptor = os.open("/dev/tty", os.O_RDWR | os.O_NOCTTY | os.O_CLOEXEC)
     except OSError as error:
-        raise Refusal(USAGE, "", "there is no terminal to ask for a passphrase at: name a file "
-                      "that has it by --key-file, or - for standard input") from error
+        raise Refusal(USAGE, "", "no terminal to ask at: use --key-file FILE, or --key-file - for "
+                      "standard input") from error
     try:
         return _ask_until_typed(descriptor, prompt)
     finally:

@@ -25,8 +25,8 @@ TRIES = 3
 # where the header of LUKS1 has its key slots, of so many bytes each
 _SLOTS1, _SLOT1_BYTES = 208, 48
 CIPHERS = ["aes-xts-plain64", "aes-xts-plain", "aes-cbc-essiv:sha256", "aes-cbc-plain64"]
-KEYBOARD = ("Caps Lock or Num Lock may be on, and at boot the keyboard may have had another layout:"
-            " type the passphrase as if on that one")
+KEYBOARD = ("Check Caps Lock and Num Lock. At boot the layout may have been another, often US: press "
+            "the same keys as at boot")
 NEWLINE = ("the key file ends with a newline, which counts: that is probably why. Make it without "
            "one")
 

@@ -216,7 +216,7 @@ class Target:
                 os.unlink(self.path)
 
     def warn_of_room(self, length: int) -> None:
-        """Says how much may be missing on the file system of the output."""
+        """Says if the file system of the output may become full."""
         if self.is_pipe or self.is_device:
             return
         with contextlib.suppress(OSError):
@@ -224,9 +224,8 @@ class Target:
             free = found.f_bavail * found.f_frsize
             free += self._found.st_blocks * 512 if self._found else 0
             if free < length:
-                say(self.path, f"there is room for {sized(free)}, and the plaintext has "
-                    f"{sized(length)}: up to {sized(length - free)} may be missing (zeros take no "
-                    "room)")
+                say(self.path, f"{sized(free)} are free, and the plaintext has {sized(length)}: "
+                    "the disk may become full (zeros take no room)")
 
     def open(self, length: int, kept: list[Kept], is_new: bool) -> Output:
         """Creates the output, or opens that of an earlier run."""
