@@ -5,12 +5,41 @@ import random
 
 import pytest
 import volumes
-from kinds import BY_VOLUME_KEY, START, VOLUME1, VOLUME2, each_kind, volume_key_options
+from kinds import BY_VOLUME_KEY, KINDS, START, VOLUME1, VOLUME2, volume_key_options
 from rescuing import says
 from support import alone, must, needs, shown
 
 
-@each_kind
+# (the beginning of a volume up to its payload, or to less: as a backup of a header is)
+HEADERS_ALONE = ["truncated at the payload", "truncated before the payload"]
+each_with_a_payload = pytest.mark.parametrize(
+    "kind", [kind for name, kind in KINDS.items() if name not in HEADERS_ALONE], ids=lambda kind: kind.image)
+
+
+@pytest.mark.parametrize("image, role", [
+    *((name, "a backup of a LUKS header, or a copy that ends before the payload") for name in HEADERS_ALONE),
+    (VOLUME1, "a backup of a LUKS header"), (VOLUME2, "a backup of a LUKS header"),
+    ("header1", "a detached LUKS header"), ("header2", "a detached LUKS header")])
+def test_header_alone(rescue, kinds, tmp_path, image, role):
+    """It has nothing to decrypt; the next command, with the disk that it belongs to, does that."""
+    disk = {"header1": "detached1", "header2": "detached2", VOLUME2: VOLUME2}.get(image, VOLUME1)
+    key = ["--key-file", kinds / KINDS[disk].key]
+    if image == disk:
+        volumes.cryptsetup("luksHeaderBackup --header-backup-file header", kinds / disk, cwd=tmp_path)
+    else:
+        volumes.copy_of(kinds / image, tmp_path / "header")
+    ended = rescue("decrypt", "header", *key, "-o", "plain")
+    says(ended, f"header: is {role}", status=4)
+    assert not (tmp_path / "plain").exists()
+    volumes.copy_of(kinds / disk, tmp_path / "disk.img")
+    command = ended.message.rpartition(": luksrd-rescue ")[2].split()
+    assert command == ["decrypt", "IMAGE", "--header", "header", "-o", "plain.img"]
+    command[1] = "disk.img"
+    says(rescue(*command, *key), status=0)
+    assert (tmp_path / "plain.img").read_bytes() == kinds.text(disk)
+
+
+@each_with_a_payload
 def test_whole(rescue, luks_cat, kinds, kind):
     header = ["--header", kinds / kind.header] if kind.header else []
     ended = rescue("decrypt", kinds / kind.image, "--key-file", kinds / kind.key, *header, "-o", "plain")
@@ -21,7 +50,7 @@ def test_whole(rescue, luks_cat, kinds, kind):
     assert not (rescue.folder / "plain.map").exists()
 
 
-@each_kind
+@each_with_a_payload
 def test_ranges(rescue, kinds, kind):
     header = ["--header", kinds / kind.header] if kind.header else []
     chance, wanted = random.Random(kind.image), kinds.text(kind.image)

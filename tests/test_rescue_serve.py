@@ -118,6 +118,12 @@ def test_a_map_beside_the_image(serve, kinds, tmp_path):
     assert image.exists()
 
 
+def test_a_header_alone(rescue, serve, kinds, tmp_path):
+    ended = rescue("serve", kinds / "truncated at the payload", "plain", "--key-file", kinds / "pass2")
+    says(ended, "is a backup of a LUKS header", "luksrd-rescue decrypt IMAGE --header ", status=4)
+    assert not (tmp_path / "plain").exists()
+
+
 @needs("qemu-img")
 def test_another_form(rescue, serve, kinds, tmp_path):
     must("qemu-img", "convert", "-f", "raw", "-O", "qcow2", kinds / VOLUME1, tmp_path / "disk.qcow2")

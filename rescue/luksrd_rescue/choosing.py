@@ -36,6 +36,15 @@ class Volume(NamedTuple):
         return begin is not None and self.length is not None and (
             begin == 0 or self.length <= begin)
 
+    @property
+    def role(self) -> str:
+        """What a file that is this volume is, for people."""
+        if not self.is_header_only:
+            return "a LUKS volume"
+        if self.facts.segment_offset == 0:
+            return "a detached LUKS header: its payload is in another file or disk"
+        return "a backup of a LUKS header, or a copy that ends before the payload"
+
 
 def add_options(parser: argparse.ArgumentParser) -> None:
     """The options that choose a volume."""

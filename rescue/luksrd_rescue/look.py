@@ -186,17 +186,8 @@ def _what(report: Report) -> str:
             f"searched for LUKS headers: {count} found"
         return f"without a partition table; {found}" if not report.kind else found
     if report.volumes:
-        return _role(report.volumes[0])
+        return report.volumes[0].role
     return f"not encrypted: {_named(report.kind, report.label)}"
-
-
-def _role(volume: choosing.Volume) -> str:
-    """What a file that begins with a header is."""
-    if not volume.is_header_only:
-        return "a LUKS volume"
-    if volume.facts.segment_offset == 0:
-        return "a detached LUKS header: its payload is in another file or disk"
-    return "a backup of a LUKS header, or a copy that ends before the payload"
 
 
 def _named(kind: str, label: str) -> str:

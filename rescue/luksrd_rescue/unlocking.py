@@ -14,7 +14,9 @@ from typing import Callable, NamedTuple, Optional
 from . import choosing, terminal, tools
 from .audit import Found, Slot
 from .command import FAILED, IMAGE, MEMORY, NO_KEY, USAGE, Refusal, number, say, shown, sized
+from .contents import free_name
 from .image import Image, Loaded, Lost, open_image
+from .words import quoted
 
 tools.prepare_library()
 import luksrd  # noqa: E402  pylint: disable=wrong-import-position,wrong-import-order
@@ -90,6 +92,10 @@ def unlock(image: Image, volume: choosing.Volume, arguments: argparse.Namespace,
     """Opens the volume, asking for the passphrase up to three times if the options name no key. Its
     payload is read from `source`, or else from the image."""
     check_options(arguments)
+    if arguments.header is None and arguments.payload_offset is None and volume.is_header_only:
+        raise Refusal(IMAGE, image.path, f"is {volume.role}. With IMAGE, the file or disk that it "
+                      f"belongs to: luksrd-rescue decrypt IMAGE --header {quoted(image.path)} -o "
+                      f"{free_name('plain.img')}")
     try:
         luksrd.library_version()
     except (OSError, AttributeError) as error:  # (an older library lacks functions)
