@@ -771,19 +771,25 @@ def test_audit_of_a_folder(cook, images):
         + columns("short.img", "header is truncated")), ended
 
 
-@needs("jq", "zsh")
+@needs("jq", "zsh", "sfdisk")
 def test_what_readme_shows(cook):
-    """Its three lines are those of a new volume, of an old one, and of no volume."""
+    """Its three lines are those of a whole disk, of an old volume, and of a new one, which that disk has, too."""
     for name, options in {
-            "laptop.img": "--type luks2 --pbkdf argon2id --pbkdf-force-iterations 4 --pbkdf-memory 65536",
+            "sda3.img": "--type luks2 --pbkdf argon2id --pbkdf-force-iterations 4 --pbkdf-memory 65536",
             "old.img": "--type luks1 --cipher aes-cbc-essiv:sha256 --hash sha256 --pbkdf-force-iterations 1000"}.items():
         with open(cook.images / name, "wb") as file:
             file.truncate(20 << 20)
         must("cryptsetup", "-q", "luksFormat", *options.split(), cook.images / name, "-", stdin=b"a passphrase")
-    (cook.images / "photo.img").write_bytes(os.urandom(4096))
+    with open(cook.images / "laptop.img", "wb") as file:
+        file.truncate(24 << 20)
+    must("sfdisk", "-q", cook.images / "laptop.img", stdin=b"label: gpt\nstart=2048, size=40960\n")
+    overwrite(cook.images / "laptop.img", 1 << 20, (cook.images / "sda3.img").read_bytes())
     shown = re.search(r"^## Audit headers.*?^```text\n(.*?)^```$", document("README.md").read_text(), re.M | re.S)[1]
     ended = by_readme(cook)
     assert ended.output.decode() == shown, ended
+    assert "Whole disks need `--search`." in document("README.md").read_text()
+    found = must("luksrd-audit", "--search", "laptop.img", cwd=cook.images, env=cook.environment)
+    assert [(line["offset"], line["version"]) for line in map(json.loads, found.splitlines())] == [(1 << 20, 2)]
 
 
 @needs("jq", "zsh")
