@@ -131,8 +131,9 @@ enum luksrd_code {
  * otherwise. If its memory is refused, luksrd_open returns LUKSRD_OUT_OF_MEMORY with the slot and
  * the memory in the message, and tries no later slot: a named slot or a limit gets around it.
  *
- * A library before version 1.3.0 (0x010300 by luksrd_version) does not know the three fields for
- * Argon2: it returns LUKSRD_BAD_OPTIONS if one of them is not 0, and skips these slots if all are. */
+ * The library of release 1.2.0 does not know the three fields for Argon2: it returns
+ * LUKSRD_BAD_OPTIONS if one of them is not 0, and skips these slots if all are. luksrd_version does
+ * not tell it from a library that was built between that release and the next one. */
 struct luksrd_options {
   uint32_t size;              /* sizeof(struct luksrd_options) */
   uint32_t detached;          /* not 0: the bytes are those of a detached header */

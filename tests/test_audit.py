@@ -591,7 +591,7 @@ def commands(first, last):
 @needs("jq")
 def test_example(shell, here):
     """The output in the guide is that of its command."""
-    for name, line in {"laptop.img": "--type luks2 --pbkdf argon2id --pbkdf-memory 1048576 --pbkdf-force-iterations 4 "
+    for name, line in {"sda3.img": "--type luks2 --pbkdf argon2id --pbkdf-memory 1048576 --pbkdf-force-iterations 4 "
                                      "--pbkdf-parallel 4",
                        "old.img": "--type luks1 --pbkdf-force-iterations 1000 --hash sha1 --key-size 256 "
                                   "--cipher aes-cbc-essiv:sha256"}.items():

@@ -345,8 +345,7 @@ MORE = {
                          {"plain.img": "ext4", "plain2.img": "ext4"}, ['TYPE="ext4"']),
     "cut in a file": Case({"disk.img": "cut7 luks2 with_random ext4"},
                           ["RESCUE.md:# What is left of each file"], {}, ["short read"]),
-    "lost sectors": Case({}, ["RESCUE.md:# LUKS2: the sectors of 512 zeros",
-                              "RESCUE.md:# The files that have such sectors"], {}, ["/random"]),
+    "lost sectors": Case({}, ["RESCUE.md:# The files with lost sectors"]),
     "a damaged key area": Case(
         {"backup": "backup luks2 ext4"},
         ["RESCUE.md:# LUKS2, but for slots by Argon2: the", "RESCUE.md:# Where it differs"]),
@@ -499,19 +498,25 @@ def test_cut_in_a_file(cook, stock):
     assert 0 < len(found) < len(whole) == 3 * MIB and whole.startswith(found)
 
 
-def test_lost_sectors(cook, stock):
-    """A sector of a file that was not copied, and one that no file has."""
+@needs("ddrescuelog")
+def test_lost_sectors(cook, stock, rescue):
+    """By the map that luksrd-rescue leaves: a sector of a file that ddrescue did not copy, and one that no file has."""
     source = stock("with_random ext4")
-    image = copy_of(stock("luks2 with_random ext4"), cook.images / "disk.img")
-    plain = source.read_bytes()
+    image = copy_of(stock("luks2 with_random ext4"), cook.folder / "laptop.img")
+    length, start = source.stat().st_size, volumes.payload_start(image)
     block = int(must("debugfs", "-R", "blocks random", source).split()[2])
     size = int(re.search(rb"Block size: *(\d+)", must("dumpe2fs", "-h", source))[1])
-    lost = [block * size // 512 + 1, len(plain) // 512 - 1]
-    for sector in lost:
-        volumes.overwrite(image, volumes.payload_start(image) + sector * 512, bytes(512))
-    copy_of(source, cook.images / "plain.img")
-    result = cooked(cook, stock, MORE["lost sectors"])
-    result.gives("zeros", "".join(f"{sector}\n" for sector in lost).encode())
+    done, lines = 0, "0 + 1\n"
+    for at in start + block * size + 512, start + length - 512:
+        lines += f"{done} {at - done} +\n{at} 512 -\n"
+        done = at + 512
+    (cook.folder / "laptop.map").write_text(f"{lines}{done} {image.stat().st_size - done} +\n")
+    volumes.passphrases(cook.folder)
+    words = "decrypt laptop.img --key-file pass --image-map laptop.map -o given/plain.img"
+    assert rescue(*words.split()).status == 6
+    (cook.images / "disk.img").touch()
+    said = cooked(cook, stock, MORE["lost sectors"]).said
+    assert re.findall(r"^\d+\t(/.*)$", said, re.MULTILINE) == ["/random"], said
 
 
 def test_damaged_key_area(cook, stock, luksrd):

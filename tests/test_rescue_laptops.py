@@ -315,9 +315,8 @@ def one_logical_volume(folder, loop, content):
 
 
 def test_what_decrypt_prints(rescue, loop, tmp_path):
-    """What the documents show, but for the sizes: LVM in a volume, and an ext4 file system in a logical volume."""
-    wanted = shown_in("RESCUE.md", "plain.img: ")
-    assert shown_in("README.md", "plain.img: ") == wanted
+    """What README shows, but for the sizes: LVM in a volume, and an ext4 file system in a logical volume."""
+    wanted = shown_in("README.md", "plain.img: ")
     root = file_system(tmp_path / "fs", "ext4", 12 * MIB, "root")
     encrypted(tmp_path / "laptop.img", one_logical_volume(tmp_path, loop, root), "argon2id")
     ended = rescue("decrypt", "laptop.img", "--key-file", "pass", "-o", "plain.img")
