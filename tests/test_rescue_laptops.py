@@ -282,10 +282,13 @@ def documented_disk(folder, text):
 
 
 def test_what_look_prints(rescue, tmp_path):
-    """What the documents show of a disk like that; the commands after it depend on the room that there is."""
+    """What the documents show of a disk like that, with ddrescue's map beside its image; the commands after it depend on
+    the room that there is."""
     wanted, _, wanted_steps = shown_in("RESCUE.md", "laptop.img: ").partition("\n\n")
     assert shown_in("README.md", "laptop.img: ") == wanted
     documented_disk(tmp_path, wanted)
+    (tmp_path / "laptop.map").write_text(
+        f"# Mapfile. Created by GNU ddrescue version 1.27\n0x0 + 1\n0x0 {16 << 30:#x} +\n")
     ended = rescue("look", "laptop.img")
     assert ended.status == 0, ended
     printed, _, steps = ended.output.decode().partition("\n\n")
