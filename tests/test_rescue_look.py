@@ -248,8 +248,8 @@ def test_a_map_beside_the_image(rescue, laptop, tmp_path, name):
     must("ddrescue", "-q", "--size", str(20 * MIB), laptop.disk, "disk.img", name, cwd=tmp_path)
     (tmp_path / "wrong").write_bytes(b"wrong")
     next_with(rescue, f" --image-map {name}")
-    warned = (f"luksrd-rescue: {name}: beside the image lists sectors that were not read, and without it they become "
-              f"noise: --image-map {name}\n")
+    warned = (f"luksrd-rescue: {name}: is beside the image, and lists sectors that were not read: without --image-map "
+              f"{name} they become noise\n")
     decrypt = ["decrypt", "disk.img", "--key-file", "wrong", "-o", "plain"]
     tries = ["try", "disk.img", "--candidates", "wrong"]
     for command in decrypt, tries:

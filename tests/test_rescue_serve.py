@@ -114,7 +114,7 @@ def test_a_map_beside_the_image(serve, kinds, tmp_path):
     (tmp_path / "disk.map").write_text("# Mapfile. Created by GNU ddrescue version 1.27\n0 + 1\n0 512 -\n")
     with serve("disk.img", "--key-file", kinds / "pass2") as served:
         assert served.path.stat().st_size == len(kinds.text(VOLUME1))
-        assert "luksrd-rescue: disk.map: beside the image lists sectors that were not read" in served.said()
+        assert "disk.map: is beside the image, and lists sectors that were not read: " in served.said()
     assert image.exists()
 
 

@@ -55,5 +55,5 @@ def warn(image, arguments: argparse.Namespace) -> None:
     """Says if such a map lists sectors that were not read, and the options do not name one."""
     found = beside(arguments.image) if arguments.image_map is None else None
     if found and found.lacks(image.size):
-        say(found.path, f"beside the image lists sectors that were not read, and without it they "
-            f"become noise: {found.option()}")
+        say(found.path, "is beside the image, and lists sectors that were not read: without "
+            f"{found.option()} they become noise")
