@@ -9,6 +9,7 @@ import types
 
 import pytest
 import volumes
+from argon2_slots import Cost
 from disks import EFI, LUKS, MIB, disk, file_system, row
 from rescuing import Terminal, disk_by_nbdfuse
 from documents import document
@@ -269,8 +270,11 @@ def documented_disk(folder, text):
         os.truncate(folder / name, length)
     must("sfdisk", "-q", path, stdin=b"label: gpt\nstart=2048, size=1048576, type=uefi, name=\"EFI System Partition\"\n"
          b"size=1048576, type=linux\nsize=+, type=linux\n")
-    cryptsetup("luksFormat --type luks2 --key-file pass --pbkdf argon2id --pbkdf-force-iterations 4 --pbkdf-memory",
-               str(1 << 20), "--uuid", uuid, "volume", cwd=folder)
+    cryptsetup("luksFormat --type luks2 --key-file pass --pbkdf pbkdf2 --pbkdf-force-iterations 1000 --uuid", uuid,
+               "volume", cwd=folder)
+    # Where little memory is free, cryptsetup would take less. `look` derives no key.
+    cost = Cost("argon2id", 4, 1 << 20, 4)
+    volumes.edit_metadata(folder / "volume", lambda tree: tree["keyslots"]["0"].update(kdf=cost.members()))
     for name in "efi", "boot":
         (folder / name).touch()
         os.truncate(folder / name, 512 * MIB)
