@@ -4,6 +4,7 @@ from __future__ import annotations
 
 import contextlib
 import os
+import select
 import signal
 import sys
 import termios
@@ -70,12 +71,29 @@ def _without_echo(descriptor: int, noted: list[int]) -> Iterator[None]:
             signal.signal(it, handlers[it] or signal.SIG_DFL)
 
 
-def _read_line(descriptor: int, line: bytearray) -> bool:
+@contextlib.contextmanager
+def _woken_by_signals() -> Iterator[int]:
+    """A descriptor that can be read as soon as a signal has come. A signal just before a read that
+    waits would otherwise be seen after it alone."""
+    wakes, noticed = os.pipe2(os.O_NONBLOCK | os.O_CLOEXEC)
+    before = signal.set_wakeup_fd(noticed, warn_on_full_buffer=False)
+    try:
+        yield wakes
+    finally:
+        signal.set_wakeup_fd(before)
+        os.close(wakes)
+        os.close(noticed)
+
+
+def _read_line(descriptor: int, wakes: int, line: bytearray) -> bool:
     """Adds what is typed to the line, without its end; False if the input ends first. The bytes are
     in no other object, so that they can be overwritten."""
     room = bytearray(4096)
     try:
         while True:
+            if wakes in select.select([descriptor, wakes], [], [])[0]:
+                os.read(wakes, 4096)
+                continue
             got = os.readv(descriptor, [room])
             if got == 0:
                 return False
@@ -90,9 +108,10 @@ def _read_line(descriptor: int, line: bytearray) -> bool:
 def _ask_once(descriptor: int, prompt: str, line: bytearray, noted: list[int]) -> bool:
     """Asks, and adds what is typed to the line; False if there is none."""
     is_line = False
-    with contextlib.suppress(_Signalled), _without_echo(descriptor, noted):
-        os.write(descriptor, prompt.encode("utf-8", "replace"))
-        is_line = _read_line(descriptor, line)
+    with _woken_by_signals() as wakes:
+        with contextlib.suppress(_Signalled), _without_echo(descriptor, noted):
+            os.write(descriptor, prompt.encode("utf-8", "replace"))
+            is_line = _read_line(descriptor, wakes, line)
     os.write(descriptor, b"\n")
     return is_line or bool(line)
 
