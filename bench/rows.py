@@ -1,8 +1,10 @@
 """What is measured. TABLES has the tables of docs/SPEED.md, each with a function that yields its rows: the name of a
 row, and what each column runs. One more row, or column, is one more entry in such a function."""
 
+import atexit
 import hashlib
 import os
+import pathlib
 import shutil
 import sys
 from typing import Callable, NamedTuple
@@ -108,7 +110,7 @@ def unlocking(at):
     fills them one after the other, cryptsetup at once."""
     image = formatted(at.folder, "argon2", ["--type", "luks2", "--pbkdf", "argon2id", "--pbkdf-force-iterations", "4",
                                             "--pbkdf-memory", str(1 << 20), "--pbkdf-parallel", "4"], 32 * MIB)
-    by_python = [sys.executable, "-c", "import luksrd, sys; luksrd.open(sys.argv[1], open(sys.argv[2], 'rb').read())"]
+    by_python = [sys.executable, "-c", "import luksrd, sys; luksrd.open(sys.argv[1], key_file=sys.argv[2])"]
     yield "1 GiB", {
         **{it.name: Time(["env", f"PYTHONPATH={TOP / 'python'}", f"LUKSRD_LIBRARY={it.library}", *by_python, image,
                           at.passphrase]) for it in at.builds},
@@ -147,9 +149,9 @@ def cipher_instructions(at):
                        within="*::inv_sub_bytes::*") for it in at.builds}
 
 
-def by_qemu(at, image):
+def by_qemu(at, image, out=None):
     return ["qemu-img", "convert", "-O", "raw", "--object", f"secret,id=s,file={at.passphrase}", "--image-opts",
-            f"driver=luks,key-secret=s,file.driver=file,file.filename={image}", at.folder / "out"]
+            f"driver=luks,key-secret=s,file.driver=file,file.filename={image}", out or at.folder / "out"]
 
 
 def served(arguments, copy):
@@ -181,16 +183,17 @@ def by_our_filter(at, build, image):
     return [f"--filter={modules(at, build) / 'nbdkit-luksrd-filter.so'}", "file", image, f"key-file={at.passphrase}"]
 
 
-def readers(at, image):
-    """Each way of reading a whole volume into the file `out`."""
+def readers(at, image, out=None):
+    """Each way of reading a whole volume into this file, or `out`."""
+    out = out or at.folder / "out"
     into_file = ["sh", "-c", 'exec "$0" luksCat --key-file "$1" "$2" >"$3"']
     # GRUB asks for the passphrase, and has no terminal here; it names a range of a device in sectors
     in_grub = 'printf "%s\\n" "$(cat "$3")" | setsid -w grub-fstest -C "$0" cp "(crypto0)0+$1" "$2"'
     return {
-        **{it.name: [*into_file, it.luksrd, at.passphrase, image, at.folder / "out"] for it in at.builds},
-        "qemu-img": by_qemu(at, image),
-        "nbdkit": ["nbdkit", "-U", "-", *by_filter(at, image), "--run", f'nbdcopy "$uri" {at.folder / "out"}'],
-        "GRUB": ["sh", "-c", in_grub, image, LARGE // SECTOR, at.folder / "out", at.passphrase],
+        **{it.name: [*into_file, it.luksrd, at.passphrase, image, out] for it in at.builds},
+        "qemu-img": by_qemu(at, image, out),
+        "nbdkit": ["nbdkit", "-U", "-", *by_filter(at, image), "--run", f'nbdcopy "$uri" {out}'],
+        "GRUB": ["sh", "-c", in_grub, image, LARGE // SECTOR, out, at.passphrase],
     }
 
 
@@ -232,21 +235,18 @@ def serving(at):
 
 
 def rescuing(at):
-    """MB/s, by the clock, of a whole volume by luksrd-rescue on this many cores, and by others, which use one."""
-    image, small = volume(at.folder, LARGE), volume(at.folder, SECTOR)
+    """MB/s, by the clock, of a whole volume into memory by luksrd-rescue on this many cores, and by others, which use one.
+    Starting is part of it. (On a disk luksrd-rescue waits until what it wrote is there, and the others do not.)"""
+    image, out = volume(at.folder, LARGE), pathlib.Path("/dev/shm") / at.folder.name
+    atexit.register(out.unlink, missing_ok=True)
     over = ["env", f"LUKSRD_LIBRARY={V2.library}", f"LUKSRD_AUDIT={AUDIT}"]
-
-    def by_rescue(cores, of):
-        pinned = ["taskset", "-c", f"0-{cores - 1}"]
-        return [*over, *pinned, TOP / "rescue" / "luksrd-rescue", "decrypt", of, "--key-file", at.passphrase, "--quiet",
-                "--force", "-o", at.folder / "out"]
-
-    columns = {"luksCat": V2.name, "qemu-img": "qemu-img"}
-    whole, least = readers(at, image), readers(at, small)
+    others = {"luksCat": V2.name, "qemu-img": "qemu-img"}
     for cores in range(1, os.cpu_count() + 1):
+        pinned = ["taskset", "-c", f"0-{cores - 1}", "/usr/bin/python3", TOP / "rescue" / "luksrd-rescue"]
+        options = ["--key-file", at.passphrase, "--quiet", "--force", "-o", out]
         yield f"{cores} {'core' if cores == 1 else 'cores'}", {
-            "luksrd-rescue": Time(by_rescue(cores, image), by_rescue(cores, small)),
-            **({column: Time(whole[it], least[it]) for column, it in columns.items()} if cores == 1 else {}),
+            "luksrd-rescue": Time([*over, *pinned, "decrypt", image, *options]),
+            **({column: Time(readers(at, image, out)[it]) for column, it in others.items()} if cores == 1 else {}),
         }
 
 
