@@ -72,7 +72,8 @@ def test_bytes_as_typed(rescue, disk2):
         assert terminal.ended() == 0, terminal.shown
 
 
-@pytest.mark.parametrize("number", [signal.SIGINT, signal.SIGTERM, signal.SIGHUP, signal.SIGQUIT])
+@pytest.mark.parametrize("number", [signal.SIGINT, signal.SIGTERM, signal.SIGHUP, signal.SIGQUIT, signal.SIGABRT,
+                                    signal.SIGUSR1, signal.SIGUSR2, signal.SIGALRM, signal.SIGVTALRM, signal.SIGXCPU])
 def test_signal_at_the_prompt(rescue, disk2, number):
     with Terminal(rescue, "decrypt", "disk.img", "-o", "plain") as terminal:
         terminal.asked().type(b"begun").signal(number)

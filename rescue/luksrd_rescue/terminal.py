@@ -20,8 +20,9 @@ Answer = TypeVar("Answer")
 # luksrd's longest passphrase
 PASSPHRASE_BYTES = 8388608
 # The signals that end or stop a program at its terminal
-_SIGNALS = [signal.SIGHUP, signal.SIGINT, signal.SIGQUIT, signal.SIGTERM, signal.SIGTSTP,
-            signal.SIGTTIN, signal.SIGTTOU]
+_SIGNALS = [signal.SIGHUP, signal.SIGINT, signal.SIGQUIT, signal.SIGABRT, signal.SIGTERM,
+            signal.SIGUSR1, signal.SIGUSR2, signal.SIGALRM, signal.SIGVTALRM, signal.SIGXCPU,
+            signal.SIGTSTP, signal.SIGTTIN, signal.SIGTTOU]
 _STOPS = {signal.SIGTSTP, signal.SIGTTIN, signal.SIGTTOU}
 # How often a line of progress is printed if there is no terminal, in seconds
 _SECONDS = 10
