@@ -30,7 +30,7 @@ CPU := x86-64-v2
 ifeq ($(filter $(CPU),x86-64-v2 x86-64-v3),)
     $(error CPU is x86-64-v2 or x86-64-v3)
 endif
-VERSION := 1.2.0
+VERSION := 1.3.0
 INTERFACE := 2
 # where the loader looks for libraries for x86-64-v3, below each folder with libraries
 HWCAPS := glibc-hwcaps/x86-64-v3

@@ -132,8 +132,7 @@ enum luksrd_code {
  * the memory in the message, and tries no later slot: a named slot or a limit gets around it.
  *
  * The library of release 1.2.0 does not know the three fields for Argon2: it returns
- * LUKSRD_BAD_OPTIONS if one of them is not 0, and skips these slots if all are. luksrd_version does
- * not tell it from a library that was built between that release and the next one. */
+ * LUKSRD_BAD_OPTIONS if one of them is not 0, and skips these slots if all are. */
 struct luksrd_options {
   uint32_t size;              /* sizeof(struct luksrd_options) */
   uint32_t detached;          /* not 0: the bytes are those of a detached header */
@@ -467,7 +466,7 @@ static __inline__ __attribute__((always_inline, unused)) void luksrd_wipe_stack(
 void luksrd_status_text(uint32_t code, struct luksrd_message *message) LUKSRD_NONNULL;
 
 /* The version of this header. */
-#define LUKSRD_VERSION 0x010200
+#define LUKSRD_VERSION 0x010300
 
 /* The version of the library, as LUKSRD_VERSION: major * 65536 + minor * 256 + patch. */
 uint32_t luksrd_version(void);

@@ -48,7 +48,7 @@ from typing import Callable, Iterator, NamedTuple, NoReturn, Optional, Protocol,
 __all__ = ["Code", "Image", "IncompleteImageWarning", "LuksError", "NotLuksError",
            "UncheckedKeyWarning", "Volume", "WrongKeyError", "library_version", "open",
            "open_by_volume_key"]
-__version__ = "1.2.0"
+__version__ = "1.3.0"
 
 _Path = Union[str, bytes, "os.PathLike[str]", "os.PathLike[bytes]"]
 _Passphrase = Union[str, bytes, bytearray, memoryview]

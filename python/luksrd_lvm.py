@@ -18,7 +18,7 @@ import zlib
 from typing import Any, Iterator, NamedTuple, Optional, Protocol, Union
 
 __all__ = ["LogicalVolume", "Pieces", "Refused", "find", "logical_volumes"]
-__version__ = "1.2.0"
+__version__ = "1.3.0"
 
 _SECTOR = 512
 # a label is in one of the first four sectors, and the areas that it names end with an empty one

@@ -184,10 +184,9 @@ def test_what_the_library_says_of_itself(unpacked):
     assert (control / "shlibs").read_text() == f"libluksrd 2 libluksrd2 (>= {VERSION})\n"
     symbols = dict(re.findall(r"^ (luksrd_.*)@LUKSRD_2 (.*)$", (control / "symbols").read_text(), re.MULTILINE))
     assert [*symbols] == re.findall(r"^ *(luksrd_.*);$", (TOP / "c/luksrd.map").read_text(), re.MULTILINE)
-    # what 1.2.0 has not, or does otherwise; before the next release packages have the version of the last one
+    # what 1.2.0 has not, or does otherwise
     later = {"luksrd_check_key", "luksrd_finish", "luksrd_header_len", "luksrd_open", "luksrd_open_by_key"}
-    new = "1.2.0" if VERSION == "1.2.0" else "1.3.0"
-    assert symbols == {name: new if name in later else "1.2.0" for name in symbols}
+    assert symbols == {name: "1.3.0" if name in later else "1.2.0" for name in symbols}
     assert "activate-noawait ldconfig" in (control / "triggers").read_text().splitlines()
 
 

@@ -89,7 +89,9 @@ VERSIONS = {
     "crates/luks_audit/specs/Table.antt": r'^program_version = codes "(.*)"$',
     "crates/luksrd_audit/stdout": r'"program_version":"(.*)"',
     "python/luksrd.py": r'^__version__ = "(.*)"$',
+    "python/luksrd_lvm.py": r'^__version__ = "(.*)"$',
     "python/pyproject.toml": r'^version = "(.*)"$',
+    "rescue/luksrd_rescue/__init__.py": r'^__version__ = "(.*)"$',
     **{f"docs/{page.name}": r"^\.Os luksrd (.*)$" for page in TOP.glob("docs/*.[0-9]")},
 }
 INTERFACES = {

@@ -2,4 +2,4 @@
 
 What libluksrd decrypts is proved. What this package puts together from it is tested."""
 
-__version__ = "1.2.0"
+__version__ = "1.3.0"

@@ -23,7 +23,7 @@ length_value (Some (Fixed bytes)) = num bytes
 
 -- which program printed the line, and by which policy
 abbrev pub program_version : List ℕ
-program_version = codes "1.2.0"
+program_version = codes "1.3.0"
 
 abbrev pub policy_number : ℕ
 policy_number = 1

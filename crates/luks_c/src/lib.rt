@@ -48,7 +48,7 @@ pub mod volume;
 mod wiping;
 
 /// The version of this library: major * 65536 + minor * 256 + patch.
-const VERSION: u32 = 0x0001_0200;
+const VERSION: u32 = 0x0001_0300;
 
 /// The number of an image's first bytes that decide everything about opening.
 const HEADER_BYTES: u64 = 33_554_432;
@@ -313,7 +313,7 @@ pub extern "C" fn luksrd_status_text(code: u32, message: &mut LuksrdMessage)
 /// The version of this library.
 #[unsafe(no_mangle)]
 pub extern "C" fn luksrd_version() -> u32
-    ensures { result ≡ 1 * 65536 + 2 * 256 }
+    ensures { result ≡ 1 * 65536 + 3 * 256 }
 {
     VERSION
 }

@@ -127,7 +127,7 @@ fn severe(rt: HostRuntime) {
 
 // The names of the columns, and three lines of errors.
 const ERRORS: &[u8] =
-    b"file\toffset\terror\tversion\tuuid\tlabel\tsubsystem\theader\tother_header\tcipher\tkey_bytes\tsector_size\tsegment_offset\tsegment_size\trequirements\tslots\tdigests\ttokens\tfindings\tweak\tseqid\theader_size\tchecksum_hash\tsalt\tiv_tweak\tprogram_version\tpolicy\tunsupported\tsegment_type\tsegment_flags\tintegrity\tflags\nnone\t\tno LUKS header\t\t\t\t\t\t\t\t\t\t\t\t\t\t\t\t\t\t\t\t\t\t\t1.2.0\t1\t\t\t\t\t\nmissing\t\tcannot be opened\t\t\t\t\t\t\t\t\t\t\t\t\t\t\t\t\t\t\t\t\t\t\t1.2.0\t1\t\t\t\t\t\nheavy\t\tout of memory\t\t\t\t\t\t\t\t\t\t\t\t\t\t\t\t\t\t\t\t\t\t\t1.2.0\t1\t\t\t\t\t\n";
+    b"file\toffset\terror\tversion\tuuid\tlabel\tsubsystem\theader\tother_header\tcipher\tkey_bytes\tsector_size\tsegment_offset\tsegment_size\trequirements\tslots\tdigests\ttokens\tfindings\tweak\tseqid\theader_size\tchecksum_hash\tsalt\tiv_tweak\tprogram_version\tpolicy\tunsupported\tsegment_type\tsegment_flags\tintegrity\tflags\nnone\t\tno LUKS header\t\t\t\t\t\t\t\t\t\t\t\t\t\t\t\t\t\t\t\t\t\t\t1.3.0\t1\t\t\t\t\t\nmissing\t\tcannot be opened\t\t\t\t\t\t\t\t\t\t\t\t\t\t\t\t\t\t\t\t\t\t\t1.3.0\t1\t\t\t\t\t\nheavy\t\tout of memory\t\t\t\t\t\t\t\t\t\t\t\t\t\t\t\t\t\t\t\t\t\t\t1.3.0\t1\t\t\t\t\t\n";
 
 #[test]
 fn columns(rt: HostRuntime) {
