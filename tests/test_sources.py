@@ -88,6 +88,7 @@ VERSIONS = {
     "crates/luks_audit/src/program.rt": r'^pub const VERSION: &str = "(.*)";$',
     "crates/luks_audit/specs/Table.antt": r'^program_version = codes "(.*)"$',
     "crates/luksrd_audit/stdout": r'"program_version":"(.*)"',
+    "crates/luks_audit_tests/src/tests/runs.rt": r"no LUKS header(?:\\t)+([0-9.]+)",
     "python/luksrd.py": r'^__version__ = "(.*)"$',
     "python/luksrd_lvm.py": r'^__version__ = "(.*)"$',
     "python/pyproject.toml": r'^version = "(.*)"$',
