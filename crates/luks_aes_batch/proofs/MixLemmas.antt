@@ -1,4 +1,5 @@
 -- InvMixColumns by doublings and XORs, one bit plane at a time.
+use Rattle.std.proofs.lemmas.Grind.{common_steps}
 use Rattle.std.proofs.Common.{◌≡◌, ℕ, zero, suc, ◌+◌, ◌%◌, ◌<◌, arith, refl, sym, ap, ◌∙◌}
 use Rattle.std.specs.Int.{bit_at}
 use Rattle.std.specs.Int.Bits.{bit_xor}
@@ -20,23 +21,6 @@ times_x_n x (suc n) = times_x (times_x_n x n)
 times_x_n_byte : (x n : ℕ) → x < 256 → times_x_n x n < 256
 times_x_n_byte x zero low = low
 times_x_n_byte x (suc n) low = times_x_byte (times_x_n x n) (times_x_n_byte x n low)
-
--- products as XORs of doublings
-times_14 : (x : ℕ) → x < 256 → 14 • x ≡ times_x_n x 1 ⊕ times_x_n x 2 ⊕ times_x_n x 3
-unfolding ◌•◌ product_of_bits times_x
-times_14 = same_below (λ x. 14 • x) (λ x. times_x_n x 1 ⊕ times_x_n x 2 ⊕ times_x_n x 3) 256 refl
-
-times_11 : (x : ℕ) → x < 256 → 11 • x ≡ times_x_n x 0 ⊕ times_x_n x 1 ⊕ times_x_n x 3
-unfolding ◌•◌ product_of_bits times_x
-times_11 = same_below (λ x. 11 • x) (λ x. times_x_n x 0 ⊕ times_x_n x 1 ⊕ times_x_n x 3) 256 refl
-
-times_13 : (x : ℕ) → x < 256 → 13 • x ≡ times_x_n x 0 ⊕ times_x_n x 2 ⊕ times_x_n x 3
-unfolding ◌•◌ product_of_bits times_x
-times_13 = same_below (λ x. 13 • x) (λ x. times_x_n x 0 ⊕ times_x_n x 2 ⊕ times_x_n x 3) 256 refl
-
-times_9 : (x : ℕ) → x < 256 → 9 • x ≡ times_x_n x 0 ⊕ times_x_n x 3
-unfolding ◌•◌ product_of_bits times_x
-times_9 = same_below (λ x. 9 • x) (λ x. times_x_n x 0 ⊕ times_x_n x 3) 256 refl
 
 -- ---- XORs of the doublings of the bytes of a column: a n is byte a doubled n times, and likewise for b, c and d
 
@@ -68,7 +52,13 @@ fourth_terms a b c d = same_from_bits _ _ (λ i. simp bit_at_xor (omega arith))
 
 in_doublings : (a b c d : ℕ) → a < 256 → b < 256 → c < 256 → d < 256
     → inv_mixed a b c d ≡ row (times_x_n a) (times_x_n b) (times_x_n c) (times_x_n d)
-in_doublings a b c d p q r s = λ i. times_14 a p i ⊕ times_11 b q i ⊕ times_13 c r i ⊕ times_9 d s i
+unfolding ◌•◌ product_of_bits times_x
+in_doublings a b c d p q r s =
+    let fourteen = same_below (λ x. 14 • x) (λ x. times_x_n x 1 ⊕ times_x_n x 2 ⊕ times_x_n x 3) 256 refl a p in
+    let eleven = same_below (λ x. 11 • x) (λ x. times_x_n x 0 ⊕ times_x_n x 1 ⊕ times_x_n x 3) 256 refl b q in
+    let thirteen = same_below (λ x. 13 • x) (λ x. times_x_n x 0 ⊕ times_x_n x 2 ⊕ times_x_n x 3) 256 refl c r in
+    let nine = same_below (λ x. 9 • x) (λ x. times_x_n x 0 ⊕ times_x_n x 3) 256 refl d s in
+    λ i. fourteen i ⊕ eleven i ⊕ thirteen i ⊕ nine i
 
 -- ---- the rows of a column
 
@@ -146,9 +136,7 @@ module _ (a b c d : ℕ) (p : a < 256) (q : b < 256) (r : c < 256) (s : d < 256)
       ∙ sym (in_doublings d a b c s p q r)
 
   pub inv_mixed_byte : inv_mixed a b c d < 256
-  inv_mixed_byte =
-      xor_byte _ _ (xor_byte _ _ (xor_byte _ _ (product_byte 14 a p) (product_byte 11 b q)) (product_byte 13 c r))
-      (product_byte 9 d s)
+  inv_mixed_byte = grind (arith, common_steps, xor_byte, product_byte)
 
 -- ---- bits of a byte times x
 
@@ -224,9 +212,7 @@ xored_bytes y all q =
     (all.at 1 q (omega arith))) (all.at 3 q (omega arith))
 
 pub even_bytes : (y : ℕ → ℕ → ℕ) → AreBytes y → (q : ℕ) → even_of (y 0 q) (y 1 q) (y 2 q) (y 3 q) < 256
-even_bytes y all q =
-    xor_byte _ _ (times_x_byte _ (xored_bytes y all q))
-    (xor_byte (y 0 q) (y 2 q) (all.at 0 q (omega arith)) (all.at 2 q (omega arith)))
+even_bytes y all q = grind (arith, common_steps, xor_byte, times_x_byte, xored_bytes)
 
 step_bytes : (y : ℕ → ℕ → ℕ) → AreBytes y → (q : ℕ) → step_of (y 0 q) (y 1 q) (y 2 q) (y 3 q) < 256
 step_bytes y all q =

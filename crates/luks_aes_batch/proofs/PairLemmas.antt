@@ -1,4 +1,5 @@
 -- The bytes of vectors and of words: halves of a vector as words, and the bytes of two words.
+use Rattle.std.proofs.lemmas.Grind.{common_steps}
 use Rattle.std.proofs.Common.{◌≡◌, ℕ, zero, suc, ◌+◌, ◌-◌, ◌*◌, ◌/◌, ◌%◌, ◌^◌, ◌<◌, List, [], ◌∷◌, ◌++◌, length}
 use Rattle.std.proofs.Common.{Fits, w8, arith, refl, sym, ap, subst, ◌∙◌, inl, inr}
 use Rattle.std.specs.Prelude.{slice_index, slice_index_or}
@@ -21,10 +22,7 @@ byte_bit : (w i k : ℕ) → k < 8 → bit_at (byte_at w i) k ≡ bit_at w (8 * 
 byte_bit w zero k low =
     let whole : w / 256 * 2 ^ 8 + w % 256 ≡ w = omega arith in
     let index : k ≡ 8 * 0 + k = omega arith in
-    ap (λ m. bit_at (w / m % 256) k) (pow-zero 256) ∙ ap (λ m. bit_at (m % 256) k) (div-one w)
-    ∙ sym (bit_at_cat_low (w / 256) 8 (w % 256) k low)
-    ∙ ap (λ m. bit_at m k) whole
-    ∙ ap (bit_at w) index
+    cc (pow-zero 256, div-one w, bit_at_cat_low (w / 256) 8 (w % 256) k low, whole, index)
 byte_bit w (suc i) k low =
     let whole : w / 256 * 2 ^ 8 + w % 256 ≡ w = omega arith in
     let index : 8 * suc i + k - 8 ≡ 8 * i + k = omega arith in
@@ -58,10 +56,7 @@ vector_of_words a b x y =
 -- byte i of the number that a list of bytes represents is byte i of the list
 byte_of : (xs : List ℕ) (i : ℕ) → Each1 (λ x. x < 256) xs → number_l 256 xs / 256 ^ i % 256 ≡ slice_index xs i
 byte_of [] i all = ap (λ n. n % 256) (zero-div (256 ^ i))
-byte_of (x ∷ xs) zero all =
-    let n = x + 256 * number_l 256 xs in
-    let low : n % 256 ≡ x = omega (arith, all.0) in
-    ap (λ m. n / m % 256) (pow-zero 256) ∙ ap (λ m. m % 256) (div-one n) ∙ low
+byte_of (x ∷ xs) zero all = grind (arith, common_steps, pow-zero, div-one)
 byte_of (x ∷ xs) (suc i) all =
     let n = x + 256 * number_l 256 xs in
     let rest : n / 256 ≡ number_l 256 xs = omega (arith, all.0) in

@@ -1,8 +1,9 @@
 -- Bitsliced states that represent blocks, and rounds of the equivalent inverse cipher on them, with their round keys.
-use Rattle.std.proofs.Common.{◌≡◌, ℕ, ◌+◌, ◌-◌, ◌*◌, ◌/◌, ◌%◌, ◌<◌, ◌≤◌, List, [], ◌∷◌, Some, length, drop}
+use Rattle.std.proofs.lemmas.Grind.{common_steps}
+use Rattle.std.proofs.Common.{◌≡◌, ℕ, ◌+◌, ◌-◌, ◌*◌, ◌/◌, ◌%◌, ◌<◌, List, [], ◌∷◌, Some, length, drop}
 use Rattle.std.proofs.Common.{inl, inr, arith, sym, ap, subst, ◌∙◌, length-drop}
 use Rattle.std.specs.Prelude.{slice_index}
-use Rattle.std.specs.Int.Bits.{xor_zero_r, xor_assoc}
+use Rattle.std.specs.Int.Bits.{xor_assoc}
 use Rattle.std.proofs.Math.ListN.{set}
 use Rattle.std.proofs.lemmas.Bool.{cases_lt}
 use Rattle.std.proofs.lemmas.Grind.{get_or-set_at}
@@ -102,21 +103,13 @@ pub states_keyed : {n : ℕ} (t : ℕ → List ℕ) (w : List ℕ) (m k : ℕ) (
     → GroupsHold (λ g r q. cells t g r q ⊕ (key_byte w m r (q / 16) ⊕ k)) x
     → RepresentStates (λ b. add_round_key (t b) w m) k x
 states_keyed t w m k x small all keys holds = record {
-  bytes = groups_also (state_byte (λ b. add_round_key (t b) w m) k) holds
-      (λ g r q low.
-      let state = add_round_key_state (t (16 * g + q % 16)) w m (all (16 * g + q % 16)) keys in
-      xor_byte _ k (state.bytes.each (r + 4 * (q / 16))) small)
-      (λ g r q low inside.
-      sym (xor_assoc _ _ k)
-      ∙ ap (λ x. x ⊕ k) (sym (keyed_cell (t (16 * g + q % 16)) w m r (q / 16) low (omega arith))));
+  bytes = grind (arith, common_steps, groups_also, add_round_key_state, xor_byte, keyed_cell);
 }
 
 -- states with 0 XORed into each byte
 pub states_plain : {n : ℕ} (t : ℕ → List ℕ) (x : BitslicedState n) → RepresentStates t 0 x
     → ((b : ℕ) → IsBytes (t b)) → GroupsHold (cells t) x
-states_plain t x holds all =
-    groups_also (cells t) holds.bytes (λ g r q low. (all (16 * g + q % 16)).each (r + 4 * (q / 16)))
-    (λ g r q low inside. xor_zero_r (cells t g r q))
+states_plain t x holds all = grind (arith, common_steps, groups_also)
 
 pub states_substituted : {n : ℕ} (t : ℕ → List ℕ) (x : BitslicedState n) → ((b : ℕ) → IsBytes (t b))
     → GroupsHold (λ g r q. inv_sbox (state_byte t 0x63 g r (rotated_index r q) ⊕ 0x63)) x
@@ -198,9 +191,7 @@ keys_more w all n key before capacity here = record {
 
 pub block_state : (s : List ℕ) (m n : ℕ) → length s ≡ 16 * m → n < m → IsBytes s → IsState (block_in s n)
 block_state s m n size low all = record {
-  len =
-      let capacity : 16 ≤ length (drop (16 * n) s) = rw (length-drop (16 * n) s) (omega arith) in
-      length-take-le 16 (drop (16 * n) s) capacity;
+  len = grind (arith, common_steps, length-drop, length-take-le);
   bytes = bytes_take 16 (drop (16 * n) s) (bytes_drop (16 * n) s all);
 }
 

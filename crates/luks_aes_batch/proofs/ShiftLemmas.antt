@@ -1,11 +1,12 @@
 -- Words of 64 bits, bit by bit: shifts, rotations, and runs of bits that two words exchange.
+use Rattle.std.proofs.lemmas.Grind.{common_steps}
 use Rattle.std.proofs.Common.{◌≡◌, ℕ, ◌+◌, ◌-◌, ◌*◌, ◌/◌, ◌%◌, ◌^◌, ◌<◌, ◌≤◌, Bool, true, false, not, cond, eqb}
 use Rattle.std.proofs.Common.{List, [], ◌∷◌, length, arith, refl, sym, ap, ◌∙◌, inl, inr, min, Fits, w64}
 use Rattle.std.specs.Prelude.{slice_index}
 use Rattle.std.specs.Int.{bit_at}
 use Rattle.std.specs.Int.Bits.{bit_xor, bit_and}
 use Rattle.std.specs.Simd.Lanes.{zip2, Each1}
-use Rattle.std.proofs.lemmas.Simd.{get_or-zip2, length-zip2, Each1-get_or, get_or-replicate}
+use Rattle.std.proofs.lemmas.Simd.{get_or-zip2, length-zip2, get_or-replicate}
 use Rattle.std.proofs.lemmas.Nat.{pow-add, pow_pos}
 use Rattle.std.proofs.lemmas.Nat.Bits.{bit_at_xor, bit_at_and, bit_at-lt, bit_at_above, bit_at_cat_low, bit_at_cat_high}
 use Rattle.std.proofs.lemmas.Nat.Bits.{bit_at-zero}
@@ -48,14 +49,7 @@ bit_rotated w n m q fits whole low =
     let l = w * 2 ^ n % 2 ^ 64 in
     bit_at_xor l (w / 2 ^ m) q
     ∙ elim (cases_lt q n) [
-      | inl under ↦
-          let index : m + q ≡ (q + 64 - n) % 64 = omega arith in
-          let bit = bit_at-lt w (m + q) in
-          let zero = bit_shl_low w n q low under in
-          let right = bit_shr w m q in
-          let all : (bit_at l q + bit_at (w / 2 ^ m) q) % 2 ≡ bit_at w (m + q) =
-          ap (λ b. (b + bit_at (w / 2 ^ m) q) % 2) zero ∙ ap (λ b. (0 + b) % 2) right ∙ omega arith in
-          all ∙ ap (bit_at w) index
+      | inl under ↦ grind (arith, common_steps, bit_at-lt, bit_shl_low, bit_shr)
       | inr above ↦
           let index : q - n ≡ (q + 64 - n) % 64 = omega arith in
           let bit = bit_at-lt w (q - n) in
@@ -89,9 +83,7 @@ rotated_word v n m l long low =
 
 pub bit_rotated_words : (v : List ℕ) (n m l q : ℕ) → length v ≡ 2 → Each1 (Fits w64) v → n + m ≡ 64 → l < 2 → q < 64
     → bit_at (slice_index (rotated_words v n m) l) q ≡ bit_at (slice_index v l) ((q + 64 - n) % 64)
-bit_rotated_words v n m l q long fits whole low small =
-    ap (λ w. bit_at w q) (rotated_word v n m l long low)
-    ∙ bit_rotated (slice_index v l) n m q (Each1-get_or (Fits w64) v l 0 (omega arith) fits).fits whole small
+bit_rotated_words v n m l q long fits whole low small = grind (arith, common_steps, rotated_word, bit_rotated)
 
 -- ---- runs
 
@@ -126,15 +118,11 @@ in_low r q = eqb (q / run_bits r % 2) 0
 
 -- the lowest run is a lower one
 lowest_run : (r : Run) (q : ℕ) → q < run_bits r → in_low r q ≡ true
-lowest_run Bit q low = agree_below_at (in_low Bit) (λ q. true) 1 q refl low
-lowest_run Pair q low = agree_below_at (in_low Pair) (λ q. true) 2 q refl low
-lowest_run Nibble q low = agree_below_at (in_low Nibble) (λ q. true) 4 q refl low
+lowest_run r q low = grind (arith, common_steps, agree_below_at)
 
 -- above a lower run there is an upper one, and the other way round
 next_run : (r : Run) (q : ℕ) → q < 64 → in_low r q ≡ not (in_low r (run_bits r + q))
-next_run Bit q low = agree_below_at (in_low Bit) (λ q. not (in_low Bit (1 + q))) 64 q refl low
-next_run Pair q low = agree_below_at (in_low Pair) (λ q. not (in_low Pair (2 + q))) 64 q refl low
-next_run Nibble q low = agree_below_at (in_low Nibble) (λ q. not (in_low Nibble (4 + q))) 64 q refl low
+next_run r q low = grind (arith, common_steps, agree_below_at)
 
 -- the XOR with a difference makes one bit the other
 changed_upper : (t : Bool) (u w : ℕ) → u < 2 → w < 2 → (u + cond (not t) ((u + w) % 2) 0) % 2 ≡ cond t u w
@@ -177,10 +165,7 @@ pub exchanged_high : (r : Run) (a b q : ℕ) → q < 64
 exchanged_high r a b q low =
     let n = run_bits r in
     let index : n + q ≡ q + n = omega arith in
-    bit_at_xor b (moved r a b) q
-    ∙ ap (λ u. (bit_at b q + u) % 2) (moved_bit r a b q low)
-    ∙ changed_lower (in_low r q) (bit_at a (n + q)) (bit_at b q) (bit_at-lt a (n + q)) (bit_at-lt b q)
-    ∙ ap (λ k. cond (in_low r q) (bit_at a k) (bit_at b q)) index
+    grind (arith, common_steps, bit_at_xor, moved_bit, changed_lower, bit_at-lt)
 
 -- ---- bits by bytes
 
@@ -198,20 +183,14 @@ equal_below_8 f g = each_below_8 (λ k. f k ≡ g k)
 
 -- a run lies within a byte
 in_byte : (r : Run) (p k : ℕ) → p < 8 → k < 8 → in_low r (8 * p + k) ≡ in_low r k
-in_byte Bit p k low small = let e : (8 * p + k) / 1 % 2 ≡ k / 1 % 2 = omega arith in ap (λ n. eqb n 0) e
-in_byte Pair p k low small = let e : (8 * p + k) / 2 % 2 ≡ k / 2 % 2 = omega arith in ap (λ n. eqb n 0) e
-in_byte Nibble p k low small = let e : (8 * p + k) / 4 % 2 ≡ k / 4 % 2 = omega arith in ap (λ n. eqb n 0) e
+in_byte r p k low small = grind (arith, common_steps)
 
 above : (r : Run) (k : ℕ) → k < 8 → k / run_bits r % 2 ≡ 0 → k + run_bits r < 8
-above Bit k small even = omega arith
-above Pair k small even = omega arith
-above Nibble k small even = omega arith
+above r k small even = grind (arith, common_steps)
 
 -- in each byte, there is an upper run above each lower run, and a lower run below each upper run
 run_above : (r : Run) (k : ℕ) → k < 8 → in_low r k ≡ true → k + run_bits r < 8
-run_above r k small even =
-    let bit : k / run_bits r % 2 ≡ 0 = eqb-true (k / run_bits r % 2) 0 even in
-    above r k small bit
+run_above r k small even = grind (arith, common_steps, eqb-true, above)
 
 run_below : (r : Run) (k : ℕ) → k < 8 → in_low r k ≡ false → run_bits r ≤ k
 run_below r k small odd = elim (cases_lt k (run_bits r)) [
@@ -229,10 +208,7 @@ bits_low r {f} {g} {a} {b} {w} first second is = record {
       ∙ ap (λ t. cond t (bit_at a (8 * p + k)) (bit_at b (8 * p + k - n))) (in_byte r p k low small)
       ∙ elim (cases_Bool (in_low r k)) [
         | inl even ↦ rw even (first.at p k low small)
-        | inr odd ↦
-            let under = run_below r k small odd in
-            let index : 8 * p + k - n ≡ 8 * p + (k - n) = omega arith in
-            rw odd (ap (bit_at b) index ∙ second.at p (k - n) low (omega arith))
+        | inr odd ↦ grind (arith, common_steps, run_below)
       ];
 }
 

@@ -14,6 +14,7 @@ use std::simd::prelude::*;
 
 // Block `n` of the batch, XORed with that of the mask.
 #[inline(always)]
+#[tactic(auto, using(crate::proofs::PackLemmas::xored_chunks))]
 fn masked_block(batch: &[u8], mask: &[u8], n: usize) -> u8x16
     requires batch { 16 * n + 16 ≤ length batch.now }
     requires mask { 16 * n + 16 ≤ length mask.now }
@@ -26,6 +27,7 @@ fn masked_block(batch: &[u8], mask: &[u8], n: usize) -> u8x16
 
 // Writes block `n` of the batch, XORed with that of the mask.
 #[inline(always)]
+#[tactic(auto, using(crate::proofs::PackLemmas::stored_block))]
 fn put_masked_block(batch: &mut [u8], mask: &[u8], n: usize, block: u8x16)
     requires batch { 16 * n + 16 ≤ length batch.old }
     requires mask { 16 * n + 16 ≤ length mask.now }

@@ -45,6 +45,7 @@ fn even_positions(a: u8x16) -> u8x16
 
 // The bytes of two words.
 #[inline(always)]
+#[tactic(auto, using(crate::proofs::PairLemmas::vector_of_words))]
 fn pair_bytes(a: u64, b: u64) -> u8x16
     ensures { result ≡ pair_bytes a b }
 {

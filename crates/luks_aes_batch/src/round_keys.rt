@@ -134,8 +134,5 @@ pub fn inner_key(keys: &[RoundKey; MAX_INNER_KEYS], n: usize) -> &RoundKey
     ensures { (w : List ℕ) (end : ℕ) → HasInvMixedKeys w keys.now end → n + 1 < end
         → HasInvMixedKey w (n + 1) 0x63 result.now }
 {
-    match keys.get(n) {
-        Some(key) => key,
-        None => unreachable!(),
-    }
+    &keys[n]
 }

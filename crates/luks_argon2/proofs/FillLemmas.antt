@@ -6,7 +6,7 @@ use Rattle.std.specs.Prelude.{nat_lt}
 use Rattle.luks_argon2.specs.declared.layout.Layout.{Layout}
 use Rattle.luks_argon2.specs.declared.layout.Segment.{Segment}
 use Rattle.luks_argon2.specs.declared.variant.Variant.{Variant}
-use Rattle.luks_argon2.specs.Fill.{block_filled, first_filled, lanes_filled, passes_filled, segment_filled, slices_filled}
+use Rattle.luks_argon2.specs.Fill.{block_filled, first_filled, segment_filled}
 use Rattle.luks_argon2.specs.Layout.{is_first_segment}
 
 -- before the first block of a segment that is filled nothing changes
@@ -22,23 +22,6 @@ pub segment_next : (v : Variant) (s : Layout) (p : Segment) (m : List (List (Lis
     → segment_filled v s p m (n + 1) ≡ block_filled v s p (segment_filled v s p m n) n
 unfolding segment_filled
 segment_next v s p m n h = rw add-one (cond-false (nat_lt n (first_filled p)) _ _ (le-ltb n (first_filled p) h))
-
-pub lanes_next : (v : Variant) (s : Layout) (pass slice : ℕ) (m : List (List (List ℕ))) (n : ℕ)
-    → lanes_filled v s pass slice m (n + 1)
-    ≡ segment_filled v s (record { pass = pass; slice = slice; lane = n }) (lanes_filled v s pass slice m n)
-    s.segment_len
-unfolding lanes_filled
-lanes_next v s pass slice m n = rw add-one refl
-
-pub slices_next : (v : Variant) (s : Layout) (pass : ℕ) (m : List (List (List ℕ))) (n : ℕ)
-    → slices_filled v s pass m (n + 1) ≡ lanes_filled v s pass n (slices_filled v s pass m n) s.lanes
-unfolding slices_filled
-slices_next v s pass m n = rw add-one refl
-
-pub passes_next : (v : Variant) (s : Layout) (m : List (List (List ℕ))) (n : ℕ)
-    → passes_filled v s m (n + 1) ≡ slices_filled v s n (passes_filled v s m n) 4
-unfolding passes_filled
-passes_next v s m n = rw add-one refl
 
 pub first_filled_small : (p : Segment) → first_filled p ≤ 2
 first_filled_small p = cond_both (is_first_segment p) 2 0 (λ n. n ≤ 2) (λ e. omega arith) (λ e. omega arith)

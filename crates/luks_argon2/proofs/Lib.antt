@@ -3,4 +3,3 @@ pub mod DigestLemmas
 pub mod FillLemmas
 pub mod TagLemmas
 pub mod VectorLemmas
-pub mod WordLemmas

@@ -1,18 +1,11 @@
 -- The memory before and after the fill, and the bytes of a block.
 use Rattle.std.proofs.Common.{◌≡◌, ℕ, ◌+◌, ◌-◌, ◌*◌, List, [], ◌++◌, length, take, refl, arith, add-one}
 use Rattle.std.proofs.lemmas.Slice.{take-put_mid}
-use Rattle.std.specs.Prelude.{slice_index_or, slice_set, ◌≤◌}
-use Rattle.luks_argon2.specs.Argon2.{with_first_blocks, first_block, last_column_xor, rows_bytes}
+use Rattle.std.specs.Prelude.{slice_index_or, ◌≤◌}
+use Rattle.luks_argon2.specs.Argon2.{last_column_xor, rows_bytes}
 use Rattle.luks_argon2.specs.Block.{block_row, xor_blocks}
 use Rattle.luks_blake2b.specs.Words.{le64_bytes}
 use borrow.Rule.Slice.PartMut.{put_mid}
-
-pub first_blocks_next : (h0 : List ℕ) (q : ℕ) (memory : List (List (List ℕ))) (n : ℕ)
-    → with_first_blocks h0 q memory (n + 1)
-    ≡ slice_set (slice_set (with_first_blocks h0 q memory n) (n * q) (first_block h0 0 n)) (n * q + 1)
-    (first_block h0 1 n)
-unfolding with_first_blocks
-first_blocks_next h0 q memory n = rw add-one refl
 
 pub last_next : (q : ℕ) (memory : List (List (List ℕ))) (n : ℕ)
     → last_column_xor q memory (n + 1)

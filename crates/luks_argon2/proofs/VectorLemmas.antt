@@ -1,13 +1,14 @@
 -- Operations on vectors of four words, lane by lane.
+use Rattle.std.proofs.Common.{rules}
 use Rattle.std.proofs.Common.{◌≡◌, ℕ, zero, suc, ◌+◌, ◌*◌, ◌/◌, ◌%◌, ◌^◌, ◌<◌, List, [], ◌∷◌, length, replicate, refl, arith}
 use Rattle.std.proofs.Common.{bit_and, bit_or, bit_xor, ◌∙◌, ap}
 use Rattle.std.proofs.lemmas.Nat.{and_mask}
 use Rattle.std.specs.Prelude.{slice_index}
 use Rattle.std.specs.Int.{rotate_right, w64}
 use Rattle.std.specs.Simd.Lanes.{zip2}
-use Rattle.luks_argon2.specs.Permutation.{gb, half_gb, multiply_add, on_columns, on_diagonals, woven}
+use Rattle.luks_argon2.specs.Permutation.{gb, half_gb, multiply_add, on_columns, woven}
 use Rattle.luks_argon2.specs.Permutation.{xor_rotated}
-use Rattle.luks_argon2.specs.Vectors.{AreHalves, vector_lane, diagonals_as_columns, columns_as_diagonals, vector_words}
+use Rattle.luks_argon2.specs.Vectors.{AreHalves, vector_lane, vector_words}
 
 pub below_four : (P : ℕ → Type 0) → P 0 → P 1 → P 2 → P 3 → (j : ℕ) → j < 4 → P j
 below_four P p0 p1 p2 p3 zero h = p0
@@ -93,16 +94,10 @@ woven_same p q r s = rw (p, q, r, s) refl
 pub columns_are : (v w : List (List ℕ)) → ((j : ℕ) → j < 4 → vector_lane w j ≡ gb (vector_lane v j))
     → vector_words w ≡ on_columns (vector_words v)
 unfolding vector_words on_columns
-columns_are v w each =
-    woven_same (each 0 (omega arith)) (each 1 (omega arith)) (each 2 (omega arith)) (each 3 (omega arith))
+columns_are v w each = search (rules, woven_same)
 
 -- both halves are GB
 pub halves_are : (u v w : List (List ℕ)) → AreHalves 32 24 u v → AreHalves 16 63 v w
     → (j : ℕ) → j < 4 → vector_lane w j ≡ gb (vector_lane u j)
 unfolding gb
 halves_are u v w first second j below = second j below ∙ ap (half_gb 16 63) (first j below)
-
--- the diagonals are columns in between
-pub diagonals_are : (v : List ℕ) → columns_as_diagonals (on_columns (diagonals_as_columns v)) ≡ on_diagonals v
-unfolding diagonals_as_columns columns_as_diagonals on_columns on_diagonals
-diagonals_are v = refl

@@ -57,6 +57,7 @@ pub(crate) fn first_digest(
 }
 
 // The block with these bytes.
+#[tactic(auto, unfolding(crate::specs::Argon2::block_of_bytes, crate::specs::Block::block_of))]
 fn block_of_bytes(bytes: &[u8; 1024]) -> Block
     ensures { result ≡ block_of_bytes bytes.now }
 {
@@ -82,6 +83,7 @@ fn le32_pair(x: u32, y: u32) -> [u8; 8]
 }
 
 // What the block at column `column`, 0 or 1, of a lane is made of.
+#[tactic(auto, using(luks_blake2b::proofs::WordLemmas::joined_after, std::proofs::Common::append_assoc))]
 fn block_input(h0: &[u8; 64], column: u32, lane: u32) -> [u8; 72]
     ensures { result ≡ h0.now ++ le32 column ++ le32 lane }
 {
@@ -92,6 +94,7 @@ fn block_input(h0: &[u8; 64], column: u32, lane: u32) -> [u8; 72]
 }
 
 // The block at column `column`, 0 or 1, of a lane.
+#[tactic(auto, unfolding(crate::specs::Argon2::first_block))]
 fn first_block(h0: &[u8; 64], column: u32, lane: u32) -> Block
     ensures { result ≡ first_block h0.now column lane }
 {

@@ -9,6 +9,7 @@ use std::simd::prelude::*;
 
 // x + y + 2 * the product of their low halves
 #[inline(always)]
+#[tactic(auto, using(crate::proofs::VectorLemmas::lanes_multiply_add))]
 fn multiply_add(x: u64x4, y: u64x4) -> u64x4
     ensures { (j : ℕ) → j < 4 → slice_index result j
         ≡ multiply_add (slice_index x j) (slice_index y j) }

@@ -75,6 +75,7 @@ fn window_start(layout: Layout, segment: Segment) -> usize
 
 /// The index of the reference block for block `i` of a segment. J_1 and J_2 are the low and the
 /// high half of `word`.
+#[tactic(auto, unfolding(crate::specs::Reference::reference_index))]
 pub(crate) fn reference_index(layout: Layout, segment: Segment, i: usize, word: u64) -> usize
     requires layout { IsLayout layout }
     requires slice { segment.slice < 4 }

@@ -1,11 +1,11 @@
 -- A message that grows by one byte.
+use Rattle.std.proofs.lemmas.Grind.{common_steps}
 use Rattle.std.proofs.Common.{◌≡◌, ℕ, zero, suc, ◌+◌, ◌*◌, ◌%◌, ◌^◌, ◌<◌, ◌≤◌, List, [], ◌∷◌, ◌++◌, length, refl, arith}
 use Rattle.std.proofs.Common.{◌∙◌, ap, drop, false, length-drop, length-append}
-use Rattle.std.proofs.lemmas.List.{drop-append-le, drop-replicate, get_or_append_left, get_or-drop}
+use Rattle.std.proofs.lemmas.List.{drop-append-le, get_or_append_left, get_or-drop}
 use Rattle.std.proofs.Math.Seq.{drop-append_seam}
-use Rattle.std.proofs.Common.{replicate}
 use Rattle.std.specs.Prelude.{slice_index}
-use Rattle.luks_blake2b.specs.Blake2b.{blocks_before_last, compress, hash_after, message_rest, padded_block}
+use Rattle.luks_blake2b.specs.Blake2b.{blocks_before_last, compress, hash_after, message_rest}
 use Rattle.luks_blake2b.specs.Hashing.{HasherModel, hasher_after}
 use Rattle.luks_blake2b.specs.Words.{le64_at, le64_words_at}
 use Rattle.luks_blake2b.proofs.BlakeLemmas.{hash_after_next}
@@ -22,17 +22,7 @@ at_start xs ys i j same =
 word_same : (xs ys : List ℕ) (i j : ℕ) → ((k : ℕ) → k < 8 → slice_index xs (i + k) ≡ slice_index ys (j + k))
     → le64_at xs i ≡ le64_at ys j
 unfolding le64_at
-word_same xs ys i j same =
-    rw (
-      at_start xs ys i j (same 0 (omega arith)),
-      same 1 (omega arith),
-      same 2 (omega arith),
-      same 3 (omega arith),
-      same 4 (omega arith),
-      same 5 (omega arith),
-      same 6 (omega arith),
-      same 7 (omega arith),
-    ) refl
+word_same xs ys i j same = grind (arith, common_steps, at_start)
 
 -- the same of 16 words
 words_same : (xs ys : List ℕ) (i j : ℕ) → ((k : ℕ) → k < 128 → slice_index xs (i + k) ≡ slice_index ys (j + k))
@@ -75,10 +65,7 @@ hash_of_longer n m t (suc k) fits =
 
 -- the words that a message has from some byte on are those of its rest
 words_of_rest : (m : List ℕ) (at : ℕ) → le64_words_at (drop at m) 0 ≡ le64_words_at m at
-words_of_rest m at =
-    words_same (drop at m) m 0 at (λ k below.
-    let plain : 0 + k ≡ k = omega arith in
-    ap (slice_index (drop at m)) plain ∙ get_or-drop at m k 0)
+words_of_rest m at = grind (arith, common_steps, words_same, get_or-drop)
 
 abbrev pub model : List ℕ → ℕ → List ℕ → HasherModel
 model hash count rest = record { hash = hash; count = count; rest = rest }
@@ -87,11 +74,7 @@ model hash count rest = record { hash = hash; count = count; rest = rest }
 pub one_byte_more : (n : ℕ) (m : List ℕ) (x : ℕ) → length (message_rest m) < 128
     → model (hash_after n m (blocks_before_last m)) (128 * blocks_before_last m) (message_rest m ++ x ∷ [])
     ≡ hasher_after n (m ++ x ∷ [])
-one_byte_more n m x short =
-    let b = blocks_before_last m in
-    let long : length (m ++ x ∷ []) ≡ length m + 1 = length-append m (x ∷ []) in
-    let same : blocks_before_last (m ++ x ∷ []) ≡ b = omega (arith, long, length-drop (128 * b) m) in
-    rw (same, hash_of_longer n m (x ∷ []) b (omega arith), drop-append-le (128 * b) m (x ∷ []) (omega arith)) refl
+one_byte_more n m x short = grind (arith, common_steps, length-append, length-drop, hash_of_longer, drop-append-le)
 
 -- a byte that begins a new block
 pub one_block_more : (n : ℕ) (m : List ℕ) (x : ℕ) → length (message_rest m) ≡ 128 → length m + 1 < 2 ^ 64
@@ -107,22 +90,9 @@ one_block_more n m x whole small =
     let next : blocks_before_last (m ++ x ∷ []) ≡ b + 1 = omega (arith, long) in
     let count : (128 * b + 128) % 2 ^ 64 ≡ 128 * (b + 1) = omega arith in
     let rest : drop (128 * (b + 1)) (m ++ x ∷ []) ≡ x ∷ [] = rw (← size) (drop-append_seam m (x ∷ [])) in
-    rw (
-      next,
-      count,
-      rest,
-      hash_after_next n (m ++ x ∷ []) b,
-      hash_of_longer n m (x ∷ []) b (omega arith),
-      words_of_longer m (x ∷ []) (128 * b) (omega arith),
-      words_of_rest m (128 * b),
-    ) refl
+    grind (arith, common_steps, hash_after_next, hash_of_longer, words_of_longer, words_of_rest)
 
 -- the bytes so far
 pub length_of_rest : (m : List ℕ) → length m < 2 ^ 64
     → (128 * blocks_before_last m + length (message_rest m)) % 2 ^ 64 ≡ length m
 length_of_rest m small = omega (arith, length-drop (128 * blocks_before_last m) m)
-
--- bytes copied into a block of zeros
-pub block_padded : (rest : List ℕ) → length rest ≤ 128
-    → rest ++ drop (length rest) (replicate 128 0) ≡ padded_block rest
-block_padded rest fits = ap (λ (l : List ℕ). rest ++ l) (drop-replicate (length rest) 128 0)

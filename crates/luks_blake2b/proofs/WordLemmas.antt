@@ -1,11 +1,11 @@
 -- Words and their bytes.
+use Rattle.std.proofs.lemmas.Grind.{common_steps}
 use Rattle.std.proofs.Common.{◌≡◌, ℕ, ◌+◌, ◌*◌, ◌<◌, ◌≤◌, List, [], ◌∷◌, ◌++◌, length, take, drop, refl, arith}
 use Rattle.std.proofs.Common.{◌∙◌, ap, sym, append_assoc}
-use Rattle.std.proofs.lemmas.List.{take_more}
+use Rattle.std.proofs.lemmas.List.{drop_at, take_at, take_more}
 use Rattle.std.proofs.lemmas.Slice.{take-put_mid}
 use Rattle.std.specs.Prelude.{slice_index}
 use Rattle.std.specs.Int.{to_le_bytes, w64}
-use Rattle.std.proofs.Math.Seq.{take-append_seam, drop-append_seam}
 use Rattle.luks_blake2b.specs.Words.{le64_bytes}
 use Rattle.std.proofs.Common.{append-nil, drop_of_length-le}
 use borrow.Rule.Slice.PartMut.{put_mid}
@@ -23,21 +23,11 @@ pub bytes_more : (out words ys : List ℕ) (i k : ℕ) → i < length words → 
     → take (8 * (i + 1)) (put_mid (8 * i) k out ys) ≡ le64_bytes (take (i + 1) words)
 unfolding le64_bytes
 bytes_more out words ys i k inside held fits is =
-    let long : length ys ≡ 8 = rw is refl in
-    let front : take (8 * (i + 1)) (put_mid (8 * i) k out ys) ≡ take (8 * i) out ++ ys =
-    take-put_mid (8 * i) k out ys (8 * (i + 1)) (omega arith) fits in
-    rw (front, held, is, take_more words i 0 inside)
-    (sym (le64_bytes-append (take i words) (slice_index words i ∷ [])))
-
-pub take_prefix : (n : ℕ) (xs ys : List ℕ) → length xs ≡ n → take n (xs ++ ys) ≡ xs
-take_prefix n xs ys h = rw (← h) (take-append_seam xs ys)
-
-pub drop_prefix : (n : ℕ) (xs ys : List ℕ) → length xs ≡ n → drop n (xs ++ ys) ≡ ys
-drop_prefix n xs ys h = rw (← h) (drop-append_seam xs ys)
+    grind (arith, common_steps, take-put_mid, take_more, le64_bytes-append)
 
 -- eight bytes behind 64
 pub joined_after : (a z b : List ℕ) → length a ≡ 64 → length z ≡ 8 → put_mid 64 8 (a ++ z) b ≡ a ++ b
 joined_after a z b la lz =
     let short : length z ≤ 8 = omega (arith, lz) in
     let past : drop 8 z ≡ [] = drop_of_length-le z short in
-    rw (take_prefix 64 a z la, drop_prefix 64 a z la, past, append-nil) refl
+    rw (take_at a z 64 la, drop_at a z 64 la, past, append-nil) refl

@@ -64,6 +64,7 @@ fn xor_rotate(v: &mut [u64; 16], d: usize, a: usize, by: u32)
 // G, the mixing function (section 3.1): mixes two words of the message into four of the working
 // vector.
 #[inline(always)]
+#[tactic(auto, unfolding(crate::specs::Blake2b::mix))]
 fn mix(v: &mut [u64; 16], a: usize, b: usize, c: usize, d: usize, x: u64, y: u64)
     requires a { a < 16 }
     requires b { b < 16 }
@@ -82,6 +83,7 @@ fn mix(v: &mut [u64; 16], a: usize, b: usize, c: usize, d: usize, x: u64, y: u64
 }
 
 // A round, with the words of the block in the order `s`.
+#[tactic(auto, unfolding(crate::specs::Blake2b::round))]
 fn round(v: &mut [u64; 16], m: &[u64; 16], s: &[usize; 16])
     requires { (k : ℕ) → k < 16 → slice_index s.now k < 16 }
     ensures { v.new ≡ round v.old m.now s.now }

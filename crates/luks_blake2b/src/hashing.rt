@@ -34,6 +34,7 @@ impl Model for Hasher {
 
 impl Hasher {
     /// A hasher for digests of `len` bytes, 64 at most, that has absorbed nothing.
+    #[tactic(auto, unfolding(crate::specs::Blake2b::hash_after))]
     pub fn new(len: usize) -> Hasher
         requires { len ≤ 64 }
         ensures { result ≡ hasher_after len [] }

@@ -22,6 +22,7 @@ fn load_word(bytes: &[u8], i: usize) -> u64
 }
 
 /// The 16 words in the 128 bytes from byte `at` on.
+#[tactic(auto, unfolding(crate::specs::Words::le64_words_at))]
 pub fn load_words(bytes: &[u8], at: usize) -> [u64; 16]
     requires { at + 128 ≤ length bytes.now }
     ensures { result ≡ le64_words_at bytes.now at }

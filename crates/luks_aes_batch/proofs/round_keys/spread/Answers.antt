@@ -1,3 +1,4 @@
+use Rattle.std.proofs.lemmas.Grind.{common_steps}
 use Rattle.std.proofs.Common.{◌≡◌, ◌∙◌, ◌*◌, arith, ap, inl, inr, sym}
 use Rattle.std.specs.Int.{bit_at}
 use Rattle.std.proofs.lemmas.Bool.{cases_lt}
@@ -8,9 +9,7 @@ pub returns-clause-bits : goal.returns-clause-bits
 returns-clause-bits c = λ q low.
     let bit : c.from.result ≡ bit_at c.args.byte c.args.j = c.from.ensures ∙ shr_and_one c.args.byte c.args.j in
     elim (cases_lt c.from.result 1) [
-      | inl none ↦
-          let zero : c.from.result ≡ 0 = omega arith in
-          ap (λ n. bit_at (n * 65535) q) zero ∙ bit_at-zero q ∙ sym zero ∙ bit
+      | inl none ↦ grind (arith, common_steps, bit_at-zero)
       | inr some ↦
           let one : c.from.result ≡ 1 = omega (arith, bit, bit_at-lt c.args.byte c.args.j) in
           ap (λ n. bit_at (n * 65535) q) one ∙ bit_at_ones 16 q low ∙ sym one ∙ bit

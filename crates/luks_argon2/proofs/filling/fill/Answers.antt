@@ -1,12 +1,10 @@
-use Rattle.std.proofs.Common.{◌≡◌, ◌∙◌, arith, sym}
-use Rattle.luks_argon2.proofs.FillLemmas.{passes_next}
+use Rattle.std.proofs.Common.{◌≡◌, ◌∙◌, add-one, arith, refl}
+use Rattle.luks_argon2.specs.Fill.{passes_filled}
 use Rattle.luks_argon2.proofs.filling.fill.Goals as goal
 
 pub passes-preserved : goal.passes-preserved
-passes-preserved c =
-    c.fill_pass.ensures
-    ∙ rw c.passes.invariant
-    (sym (passes_next c.args.variant c.args.layout c.args.memory.now c.passes.pass))
+unfolding passes_filled
+passes-preserved c = c.fill_pass.ensures ∙ rw (c.passes.invariant, add-one) refl
 
 pub returns : goal.returns
 returns c =

@@ -1,12 +1,10 @@
-use Rattle.std.proofs.Common.{◌≡◌, ◌∙◌, arith, sym}
-use Rattle.luks_argon2.proofs.FillLemmas.{slices_next}
+use Rattle.std.proofs.Common.{◌≡◌, ◌∙◌, add-one, arith, refl}
+use Rattle.luks_argon2.specs.Fill.{slices_filled}
 use Rattle.luks_argon2.proofs.filling.fill_pass.Goals as goal
 
 pub slices-preserved : goal.slices-preserved
-slices-preserved c =
-    c.fill_slice.ensures
-    ∙ rw c.slices.invariant
-    (sym (slices_next c.args.variant c.args.layout c.args.pass c.args.memory.now c.slices.slice))
+unfolding slices_filled
+slices-preserved c = c.fill_slice.ensures ∙ rw (c.slices.invariant, add-one) refl
 
 pub returns : goal.returns
 returns c =

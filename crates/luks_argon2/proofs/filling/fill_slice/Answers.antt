@@ -1,12 +1,10 @@
-use Rattle.std.proofs.Common.{◌≡◌, ◌∙◌, arith, sym}
-use Rattle.luks_argon2.proofs.FillLemmas.{lanes_next}
+use Rattle.std.proofs.Common.{◌≡◌, ◌∙◌, add-one, arith, refl}
+use Rattle.luks_argon2.specs.Fill.{lanes_filled}
 use Rattle.luks_argon2.proofs.filling.fill_slice.Goals as goal
 
 pub lanes-preserved : goal.lanes-preserved
-lanes-preserved c =
-    c.fill_segment.ensures
-    ∙ rw c.lanes.invariant
-    (sym (lanes_next c.args.variant c.args.layout c.args.pass c.args.slice c.args.memory.now c.lanes.lane))
+unfolding lanes_filled
+lanes-preserved c = c.fill_segment.ensures ∙ rw (c.lanes.invariant, add-one) refl
 
 pub returns : goal.returns
 returns c =

@@ -1,7 +1,7 @@
-use Rattle.std.proofs.Common.{◌≡◌, ◌∙◌, ap, arith, length, length-drop, length-take, sym, rules}
+use Rattle.std.proofs.lemmas.Grind.{common_steps}
+use Rattle.std.proofs.Common.{◌≡◌, ◌∙◌, arith, length-drop, length-take, rules}
 use Rattle.std.proofs.lemmas.List.{take_all}
 use Rattle.std.proofs.lemmas.Slice.{overwrites}
-use Rattle.luks_blake2b.specs.VariableLength.{variable_length_hash}
 use Rattle.luks_argon2.proofs.TagLemmas.{rows_bytes_more}
 use Rattle.luks_argon2.proofs.tag.hash_block.Goals as goal
 
@@ -16,5 +16,4 @@ pub returns : goal.returns
 returns c =
     let done : c.rows.i ≡ 8 = omega arith in
     let all = rw done at c.rows.invariant.1 in
-    c.variable_length_hash.ensures ∙ ap (variable_length_hash (length c.args.tag.now))
-    (sym (take_all 1024 c.rows.bytes (omega arith)) ∙ all)
+    grind (arith, common_steps, take_all, c.variable_length_hash.ensures)

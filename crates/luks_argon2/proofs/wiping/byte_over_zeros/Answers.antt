@@ -1,3 +1,5 @@
+use Rattle.std.proofs.lemmas.Grind.{common_steps}
+use Rattle.std.proofs.Common.{arith}
 use Rattle.std.proofs.Common.{◌≡◌, ◌%◌, slice_index}
 use Rattle.std.proofs.Math.Nat.{mod-lt}
 use Rattle.std.proofs.lemmas.List.{get_or-replicate}
@@ -8,6 +10,5 @@ use Rattle.luks_argon2.proofs.wiping.byte_over_zeros.Goals as goal
 pub returns : goal.returns
 returns c =
     let zero : slice_index c.args.zeros.now (c.args.index % c.args.len) ≡ 0 =
-    rw c.requires.wiped
-    (get_or-replicate c.args.len (c.args.index % c.args.len) 0 0 (mod-lt c.args.index c.requires.some)) in
+    grind (arith, common_steps, get_or-replicate, mod-lt) in
     rw zero (or_zero_r c.args.byte)

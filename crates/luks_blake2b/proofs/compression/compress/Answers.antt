@@ -1,14 +1,12 @@
-use Rattle.std.proofs.Common.{◌≡◌, ◌%◌, ◌/◌, ◌^◌, ◌∙◌, ap, arith, refl, sym}
+use Rattle.std.proofs.lemmas.Grind.{common_steps}
+use Rattle.std.proofs.Common.{◌≡◌, ◌∙◌, ap, arith, sym}
 use Rattle.luks_blake2b.specs.Blake2b.{compress, folded, rounds}
 use Rattle.luks_blake2b.proofs.BlakeLemmas.{rounds_next, sigma_below}
 use Rattle.luks_blake2b.proofs.compression.compress.Goals as goal
 
 pub rounds-init : goal.rounds-init
 unfolding rounds
-rounds-init c =
-    let low : c.args.count % 2 ^ 64 ≡ c.args.count = omega arith in
-    let high : c.args.count / 2 ^ 64 ≡ 0 = omega arith in
-    rw (low, high, c.final_flag-flag.ensures) refl
+rounds-init c = grind (arith, common_steps)
 
 pub round-requires : goal.round-requires
 round-requires c = sigma_below _ (omega arith)

@@ -1,5 +1,8 @@
-use Rattle.luks_blake2b.proofs.HashingLemmas.{block_padded}
+use Rattle.std.proofs.Common.{ℕ, List, ◌++◌, ap, length}
+use Rattle.std.proofs.lemmas.List.{drop-replicate}
 use Rattle.luks_blake2b.proofs.hashing.padded_block.Goals as goal
 
 pub returns : goal.returns
-returns c = rw c.copy_from_slice.ensures.after (block_padded c.args.bytes.now c.requires)
+returns c =
+    let bytes = c.args.bytes.now in
+    rw c.copy_from_slice.ensures.after (ap (λ (l : List ℕ). bytes ++ l) (drop-replicate (length bytes) 128 0))

@@ -2,7 +2,7 @@ use Rattle.std.proofs.Common.{◌≡◌, ◌∙◌, ◌*◌, ◌+◌, ◌-◌, a
 use Rattle.luks_blake2b.specs.Blake2b.{blake2b}
 use Rattle.luks_blake2b.specs.VariableLength.{half_count, halves, v_at}
 use Rattle.luks_blake2b.proofs.VariableLengthLemmas.{halves_more, long_is, v_next}
-use Rattle.luks_blake2b.proofs.WordLemmas.{take_prefix}
+use Rattle.std.proofs.lemmas.List.{take_at}
 use Rattle.luks_blake2b.proofs.variable_length.write_halves.Goals as goal
 
 pub halves-init : goal.halves-init
@@ -10,7 +10,7 @@ unfolding v_at halves
 halves-init c = (
   search rules,
   refl,
-  take_prefix 32 c.copy_from_slice.new.self _
+  take_at c.copy_from_slice.new.self _ 32
       (omega (arith, c.copy_from_slice.ensures.len, length-take 32 c.args.out.now))
       ∙ c.copy_from_slice.ensures.after,
 )
