@@ -1,28 +1,19 @@
 -- Properties of the segment of a header, and of the values that it is read from.
-use Rattle.std.proofs.Common.{◌≡◌, ◌∙◌, ℕ, ap, sym, subst, refl, true, false, Option, Some, None, arith, ◌≢◌}
-use Rattle.std.proofs.Common.{List, [], ◌∷◌, Result, Ok, Err, String, Global, length}
-use Rattle.std.specs.Prelude.{not, codes, is_none, is_some, option_map, ◌==◌}
-use Rattle.std.specs.Prelude.{◌||◌, ◌&&◌, Bool, if◌then◌else◌}
-use Rattle.std.proofs.lemmas.Bool.{not-false, ne_eqb}
-use Rattle.std.proofs.lemmas.Option.{none-some}
-use Rattle.luks_cipher.specs.declared.mode.Mode.{Mode}
-use Rattle.luks_format.proofs.MadeLemmas.{refused_or-fault, refused_or-none}
-use Rattle.luks_format.proofs.MadeLemmas.{segment_of_all-yes}
-use Rattle.luks_format.specs.SectorSize.{has_whole_sectors}
-use Rattle.luks_format.specs.declared.sector_size.SectorSize.{SectorSize as Sector}
-use Rattle.luks_format.proofs.TableLemmas.{none_holds}
+use Rattle.std.proofs.lemmas.Grind.{common_steps}
+use Rattle.std.proofs.Common.{◌≡◌, ℕ, sym, refl, false, Option, Some, None, arith, ◌≢◌}
+use Rattle.std.proofs.Common.{List, [], ◌∷◌, Result, Ok, String, Global, length}
+use Rattle.std.specs.Prelude.{codes, option_map, ◌==◌}
+use Rattle.std.proofs.lemmas.Bool.{ne_eqb}
+use Rattle.luks_format.proofs.MadeLemmas.{refused_or-none}
 use Rattle.luks2_metadata.specs.declared.bounds.Bounds.{Bounds}
-use Rattle.luks2_metadata.specs.Segment2.{payload2_start, payload_mode2_of, fault2_of, has_requirement, is_segment}
-use Rattle.luks2_json.specs.Member.{decimal_member}
-use Rattle.luks2_metadata.specs.Segment2.{has_segment_members, is_empty_array, mode2_of}
-use Rattle.luks2_metadata.specs.Segment2.{sector_size_of, segment2_of, segment_faults, segment_parts2_of, segment_value}
-use Rattle.luks2_metadata.specs.Segment2.{only_member, size_is_wrong, size_member, the_segment}
-use Rattle.serde_json.specs.Data.{Data, Items, Members, array, object}
+use Rattle.luks2_metadata.specs.Segment2.{payload2_start, payload_mode2_of, fault2_of}
+use Rattle.luks2_metadata.specs.Segment2.{is_empty_array}
+use Rattle.luks2_metadata.specs.Segment2.{segment2_of, segment_parts2_of, segment_value}
+use Rattle.luks2_metadata.specs.Segment2.{only_member, the_segment}
+use Rattle.serde_json.specs.Data.{Data, Items, Members, array}
 use Rattle.std.specs.Result.{result_ok}
-use Rattle.luks_format.specs.Segment.{segment_from, segment_of_all}
-use Rattle.luks_format.specs.Table.{first_match}
+use Rattle.luks_format.specs.Segment.{segment_from}
 use Rattle.luks_format.specs.declared.refusal.SegmentFault.{SegmentFault}
-use Rattle.luks_format.specs.declared.refusal.SegmentFault.TheVariants.{Requirement, Segments}
 use Rattle.luks_format.specs.declared.segment.Segment.{Segment}
 use Rattle.serde_json.specs.Find.{as_array, as_object, get, get_member}
 use Rattle.serde_json.specs.View.{items_view, members_view}
@@ -36,8 +27,7 @@ none_viewed (value ∷ rest) = ne_eqb (length (value ∷ rest)) 0 (λ e. omega (
 
 -- a value is the array of its items
 array_of : (value : Data) (items : Items) → Some items ≡ as_array value → array items ≡ value
-array_of (array found) items is = let same : items ≡ found = cc in ap array same
-array_of _ items is = absurd cc
+array_of value items is = grind (arith, common_steps)
 
 pub empty_viewed : (value : Data) (values : List Value) (len : ℕ) → Some (items_view values) ≡ as_array value
     → len ≡ length values → (len == 0) ≡ is_empty_array value
@@ -45,8 +35,7 @@ empty_viewed value values len is same = rw (← array_of value (items_view value
 
 -- a value that is no array is no empty one
 pub not_array : (value : Data) → None ≡ as_array value → false ≡ is_empty_array value
-not_array (array items) none = absurd cc
-not_array _ none = refl
+not_array value none = grind (arith, common_steps)
 
 -- ---- the only member
 
@@ -65,17 +54,14 @@ none_only name (entry ∷ next ∷ rest) more = refl
 -- looking up a name in an object looks it up among its members
 get_object : (name : List ℕ) (value : Data) (all : Members) → as_object value ≡ Some all
     → get name value ≡ get_member name all
-get_object name (object found) all is = let same : found ≡ all = cc in ap (get_member name) same
-get_object name _ all is = absurd cc
+get_object name value all is = grind (arith, common_steps)
 
 -- the segment, if the object of segments has exactly one member, and if it has another number of members
 pub segment_only : (tree segments : Data) (entries : List (String Global × Value)) (found : Option Data)
     → Some segments ≡ get (codes "segments") tree → Some (members_view entries) ≡ as_object segments
     → length entries ≡ 1 → found ≡ get (codes "0") segments → found ≡ the_segment tree
 unfolding the_segment
-segment_only tree segments entries found there all one is =
-    let got = get_object (codes "0") segments (members_view entries) (sym all) in
-    rw (← there, ← all) (is ∙ (got ∙ get_only (codes "0") entries one))
+segment_only tree segments entries found there all one is = grind (arith, common_steps, get_object, get_only)
 
 pub segment_none : (tree segments : Data) (entries : List (String Global × Value))
     → Some segments ≡ get (codes "segments") tree → Some (members_view entries) ≡ as_object segments
@@ -83,73 +69,11 @@ pub segment_none : (tree segments : Data) (entries : List (String Global × Valu
 unfolding the_segment
 segment_none tree segments entries there all more = rw (← there, ← all) (sym (none_only (codes "0") entries more))
 
--- ---- the fault of a segment
-
-pub fault2-requirement : (tree : Data) (bounds : Bounds) → has_requirement tree ≡ true
-    → fault2_of tree bounds ≡ Some Requirement
-unfolding fault2_of
-fault2-requirement tree bounds requires = rw requires refl
-
-pub fault2-segments : (tree : Data) (bounds : Bounds) → has_requirement tree ≡ false → the_segment tree ≡ None
-    → fault2_of tree bounds ≡ Some Segments
-unfolding fault2_of
-fault2-segments tree bounds requires none = rw (requires, none) refl
-
--- if nothing is required and there is a segment, the first fault is that of the segment
-pub fault2-there : (tree : Data) (bounds : Bounds) (segment : Data) → has_requirement tree ≡ false
-    → the_segment tree ≡ Some segment → fault2_of tree bounds ≡ first_match (segment_faults bounds segment)
-unfolding fault2_of
-fault2-there tree bounds segment requires there = rw (requires, there) refl
-
--- a segment with a fault is refused with its first one; a segment without a fault is made from its parts
-pub segment2-fault : (tree : Data) (bounds : Bounds) (fault : SegmentFault) → fault2_of tree bounds ≡ Some fault
-    → segment2_of tree bounds ≡ Err fault
-unfolding segment2_of
-segment2-fault tree bounds fault is =
-    refused_or-fault (fault2_of tree bounds) (segment_from (segment_parts2_of (segment_value tree))) fault is
-
+-- a segment without a fault is made from its parts
 pub segment2-none : (tree : Data) (bounds : Bounds) (segment : Segment) → fault2_of tree bounds ≡ None
     → segment_from (segment_parts2_of (segment_value tree)) ≡ Some segment → segment2_of tree bounds ≡ Ok segment
 unfolding segment2_of
 segment2-none tree bounds segment none made = refused_or-none _ _ segment none made
-
--- if there is a segment, `segment_value` is its value
-pub segment_value-there : (tree segment : Data) → the_segment tree ≡ Some segment → segment_value tree ≡ segment
-segment_value-there tree segment there = rw there refl
-
--- ---- the segment that parts without a fault make
-
--- parts that are all present make a segment, if its length is whole sectors or not fixed
-made_of_parts : (offset : Option ℕ) (size : Option (Option ℕ)) (iv_tweak : Option ℕ) (sector_size : Option Sector)
-    (mode : Option Mode) (encryption sized : Bool)
-    → (is_some offset && is_some size && is_some iv_tweak && encryption && sized) ≡ true
-    → is_none sector_size ≡ false → is_none mode ≡ false → size_is_wrong size sector_size ≡ false
-    → segment_of_all offset size iv_tweak sector_size mode ≢ None
-unfolding size_is_wrong
-made_of_parts (Some offset) (Some size) (Some iv_tweak) (Some sector_size) (Some mode) _ _ members z m whole none =
-    none-some _ (sym none
-    ∙ segment_of_all-yes offset size iv_tweak sector_size mode (not-false (has_whole_sectors size sector_size) whole))
-made_of_parts _ _ _ _ _ _ _ members z m whole none = absurd cc
-
--- a valid segment of type crypt has its members
-members_there : (typed crypt members : Bool) → not (typed && (not crypt || members)) ≡ false → not crypt ≡ false
-    → members ≡ true
-members_there true true true is kind = cc
-members_there _ _ _ is kind = absurd cc
-
--- the values of a segment without a fault make a segment
-pub made2 : (tree : Data) (bounds : Bounds) → fault2_of tree bounds ≡ None
-    → segment_from (segment_parts2_of (segment_value tree)) ≢ None
-unfolding fault2_of segment_from segment_parts2_of is_segment has_segment_members
-made2 tree bounds no_fault =
-    let segment = segment_value tree in
-    let all = none_holds ((has_requirement tree, Requirement) ∷ (is_none (the_segment tree), Segments)
-    ∷ segment_faults bounds segment) no_fault in
-    let lines = all.1.1 in
-    let members = members_there _ _ _ lines.0 lines.1.0 in
-    made_of_parts (decimal_member (codes "offset") segment) (size_member segment)
-    (decimal_member (codes "iv_tweak") segment) (sector_size_of segment) (mode2_of segment) _ _ members
-    lines.1.1.1.1.0 lines.1.1.1.0 lines.1.1.1.1.1.1.0
 
 -- ---- a segment that is not refused
 
@@ -165,8 +89,6 @@ segment2-ok tree bounds segment is =
     let offset_in : Result Segment SegmentFault → Option ℕ =
     λ read. option_map (λ (s : Segment). s.offset) (result_ok read) in
     record {
-      start = λ attached.
-          subst (λ detached. (if detached then None else offset_in (segment2_of tree bounds)) ≡ Some segment.offset)
-          (sym attached) (ap offset_in is);
+      start = grind (arith, common_steps);
       mode = rw is refl;
     }

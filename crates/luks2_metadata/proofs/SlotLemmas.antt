@@ -1,13 +1,13 @@
 -- Properties of usable digests, and of a slot that there is no reason to skip.
+use Rattle.std.proofs.lemmas.Grind.{common_steps}
 use Rattle.std.proofs.Common.{◌≡◌, ◌∙◌, ℕ, ◌^◌, ◌<◌, ◌≤◌, ap, sym, subst, refl, Bool, true, false, List, [], length}
 use Rattle.std.proofs.Common.{Option, Some, None, arith}
-use Rattle.std.specs.Prelude.{◌&&◌, ◌||◌, not, codes, if◌then◌else◌, is_none, is_some, nat_lt, option_and_then}
+use Rattle.std.specs.Prelude.{◌&&◌, ◌||◌, not, codes, if◌then◌else◌, is_none, is_some, option_and_then}
 use Rattle.std.specs.Prelude.{option_map, unwrap_or}
-use Rattle.std.specs.Option.{option_map_or, option_or}
+use Rattle.std.specs.Option.{option_or}
 use Rattle.std.proofs.lemmas.Bool.Decides.{nat_tests}
 use Rattle.std.proofs.lemmas.Bool.{and_parts, ltb-true, not-false, or_parts}
 use Rattle.std.proofs.lemmas.Option.{none-some, same_Some}
-use Rattle.luks_argon2.specs.declared.variant.Variant.{Variant}
 use Rattle.luks_cipher.specs.declared.mode.Mode.{Mode}
 use Rattle.luks_cipher.proofs.ModeLemmas.{max_mode_key}
 use Rattle.luks_format.specs.Derivation.{argon2_refusal, derivation_refusal, has_known_hash, is_allowed, is_derivable}
@@ -19,13 +19,12 @@ use Rattle.luks_format.specs.Slot.{has_no_usable_digest, material_end}
 use Rattle.luks_format.specs.Slot.{slot_from, verdict_kind_of}
 use Rattle.luks_format.proofs.MadeLemmas.{are_in_range, digest_from-no, digest_from-yes, digest_of, digest_there}
 use Rattle.luks_format.proofs.MadeLemmas.{is_usable, mapped, of_usable, slot_from-yes, slot_of, some_from_not_none}
-use Rattle.luks_format.specs.declared.derivation.Argon2Limits.{Argon2Limits}
 use Rattle.luks_format.specs.declared.derivation.Derivation.{Derivation}
 use Rattle.luks_format.specs.declared.derivation.Derivation.TheVariants.{Pbkdf2, Argon2}
 use Rattle.luks_format.specs.declared.derivation.Limits.{Limits}
 use Rattle.luks_format.specs.declared.digest.KeyDigest.{KeyDigest}
 use Rattle.luks_format.specs.declared.refusal.SkipReason.{SkipReason}
-use Rattle.luks_format.specs.declared.refusal.SkipReason.TheVariants.{Iterations, Argon2Time, Argon2Cpus}
+use Rattle.luks_format.specs.declared.refusal.SkipReason.TheVariants.{Argon2Time, Argon2Cpus}
 use Rattle.luks_format.specs.declared.refusal.SkipReason.TheVariants.{Argon2Memory}
 use Rattle.luks_format.specs.declared.slot.Slot.{Slot}
 use Rattle.luks_format.specs.declared.slot.SlotParts.{SlotParts}
@@ -34,17 +33,16 @@ use Rattle.luks_format.specs.declared.slot.VerdictKind.TheVariants.{Usable as Ki
 use Rattle.luks_kdf.specs.declared.hash.Hash.{Hash}
 use Rattle.luks_cipher.specs.Sector.{is_mode_key_length}
 use Rattle.luks2_json.specs.Numbered.{object_numbered}
-use Rattle.luks2_json.specs.Member.{base64_member, in_member, is_length_for, passes}
+use Rattle.luks2_json.specs.Member.{base64_member, in_member, is_length_for}
 use Rattle.luks_format.proofs.TableLemmas.{none_holds}
 use Rattle.luks2_metadata.specs.Digest2.{digest2_for, digest2_of, digest_parts2_of, is_digest2, iterations_of_digest}
 use Rattle.luks2_metadata.specs.declared.bounds.Bounds.{Bounds}
 use Rattle.luks2_metadata.specs.Segment2.{payload2_start, payload_mode2_of}
-use Rattle.luks2_metadata.specs.Kdf2.{kdf2_of, derivation_by, is_argon2, is_kdf_type, variant_if, variant_of}
+use Rattle.luks2_metadata.specs.Kdf2.{kdf2_of, is_argon2, variant_of}
 use Rattle.luks2_metadata.specs.Slot2.{form_reasons, form_refusal, material_reasons, material_refusal, place_reasons}
 use Rattle.luks2_metadata.specs.Slot2.{place_refusal, reason2_of, slot2_at, slot2_of}
 use Rattle.luks2_metadata.specs.Slot2.{slot_parts2_of, verdict2_at, verdict2_of}
 use Rattle.serde_json.specs.Data.{Data}
-use Rattle.serde_json.specs.Find.{get}
 
 -- ---- usable digests
 
@@ -73,21 +71,17 @@ digest_in_range digest is held = rw (is, digest_from-yes (digest_parts2_of diges
 
 -- the iterations of a digest are present exactly if the digest is
 pub same_some : (o : Option KeyDigest) → is_some (option_map iterations_of_digest o) ≡ is_some o
-same_some None = refl
-same_some (Some key) = refl
+same_some o = grind (arith, common_steps)
 
 -- ---- numbers of a slot that are in range
 
 key_length_few : (mode : Option Mode) (bytes : ℕ) → is_length_for mode bytes ≡ true → bytes ≤ 64
 unfolding is_length_for
-key_length_few None bytes is = grind (arith, nat_tests)
-key_length_few (Some mode) bytes is = max_mode_key mode bytes is
+key_length_few mode bytes is = grind (arith, common_steps, max_mode_key)
 
 pub key_sizes_few : (area_mode mode : Option Mode) (area_bytes bytes : ℕ)
     → (is_length_for area_mode area_bytes && is_length_for mode bytes) ≡ true → (area_bytes ≤ 64) × (bytes ≤ 64)
-key_sizes_few area_mode mode area_bytes bytes is =
-    let parts = and_parts _ _ is in
-    (key_length_few area_mode area_bytes parts.0, key_length_few mode bytes parts.1)
+key_sizes_few area_mode mode area_bytes bytes is = grind (arith, common_steps, and_parts, key_length_few)
 
 pub stripes_few : (stripes : ℕ) → stripes_out_of_range stripes ≡ false → stripes ≤ 4000
 unfolding stripes_out_of_range
@@ -97,13 +91,7 @@ stripes_few stripes is = grind (arith, nat_tests)
 pub derivable_if : (limits : Limits) (derivation : Derivation) → derivation_refusal limits derivation ≡ None
     → is_derivable derivation ≡ true
 unfolding derivation_refusal is_derivable argon2_refusal iterations_out_of_range
-derivable_if limits (Pbkdf2 hash iterations) none =
-    by (iterations_out_of_range limits.max_iterations iterations) refl none
-  where
-    by : (out : Bool) → iterations_out_of_range limits.max_iterations iterations ≡ out
-        → (if out then Some Iterations else None) ≡ None → not (iterations_out_of_range None iterations) ≡ true
-    by true is h = absurd cc
-    by false is h = grind (arith, nat_tests)
+derivable_if limits (Pbkdf2 hash iterations) none = grind (arith, common_steps)
 derivable_if limits (Argon2 parameters) none =
     of_rows (passes_out_of_range parameters.passes) (lanes_out_of_range parameters.lanes)
     (memory_out_of_range parameters.memory_kib parameters.lanes) _ none
@@ -119,14 +107,12 @@ derivable_if limits (Argon2 parameters) none =
 -- if one of two options or the other is none, both are
 none_of_both : {T : Type 0} (first second : Option T) → option_or first second ≡ None
     → (first ≡ None) × (second ≡ None)
-none_of_both None second is = (refl, is)
-none_of_both (Some x) second is = absurd (none-some x (sym is))
+none_of_both first second is = grind (arith, common_steps, none-some)
 
 known_area : (mode : Option Mode) (bytes : ℕ) → is_none mode ≡ false → is_length_for mode bytes ≡ true
     → (known : Mode) × (mode ≡ Some known) × (is_mode_key_length known bytes ≡ true)
 unfolding is_length_for
-known_area None bytes none is = absurd cc
-known_area (Some mode) bytes none is = (mode, refl, is)
+known_area mode bytes none is = grind (arith, common_steps)
 
 -- ---- what follows if there is no reason to skip a slot
 
@@ -152,11 +138,7 @@ pub record IsSmall (parts : SlotParts) : Type 0 where
 pub material_small : (payload_mode : Option Mode) (parts : SlotParts) → material_refusal payload_mode parts ≡ None
     → IsSmall parts
 unfolding material_refusal
-material_small payload_mode parts none =
-    let all = none_holds (material_reasons payload_mode parts) none in
-    let keys = key_sizes_few parts.area_mode payload_mode parts.area_key_bytes parts.key_bytes
-    (not-false _ all.1.1.0) in
-    record { stripes = stripes_few parts.stripes all.1.1.1.0; key = keys.1; area_key = keys.0 }
+material_small payload_mode parts none = grind (arith, common_steps, none_holds, key_sizes_few, not-false, stripes_few)
 
 -- a salt that Argon2 allows
 abbrev pub IsSaltFor : Derivation → List ℕ → Type 0
@@ -169,18 +151,7 @@ allowed : (limits : Limits) (slot : Data) → form_refusal limits slot ≡ None
 unfolding form_refusal kdf2_of variant_of
 allowed limits slot none known =
     let all = none_holds (form_reasons limits slot) none in
-    by (is_kdf_type (codes "argon2i") slot) (is_kdf_type (codes "argon2id") slot) all.1.1.0 all.1.1.1.0 known
-  where
-    some : (o : Option Argon2Limits) → (is_none o && true) ≡ false → is_some o ≡ true
-    some None is = absurd cc
-    some (Some limits) is = refl
-
-    by : (first second : Bool) → (is_none limits.argon2 && first) ≡ false → (is_none limits.argon2 && second) ≡ false
-        → has_known_hash (derivation_by (variant_if first second) slot) ≡ true
-        → is_allowed limits (derivation_by (variant_if first second) slot) ≡ true
-    by true second closed closed' h = some limits.argon2 closed
-    by false true closed closed' h = some limits.argon2 closed'
-    by false false closed closed' h = h
+    grind (arith, common_steps)
 
 -- and its salt is one that Argon2 allows, if it is Argon2
 short_salt : (limits : Limits) (slot : Data) → form_refusal limits slot ≡ None
@@ -188,25 +159,7 @@ short_salt : (limits : Limits) (slot : Data) → form_refusal limits slot ≡ No
 unfolding form_refusal kdf2_of is_argon2
 short_salt limits slot none =
     let all = none_holds (form_reasons limits slot) none in
-    by (variant_of slot) all.1.1.1.1.1.0
-  where
-    of_salt : (salt : Option (List ℕ))
-        → option_map_or (λ len. nat_lt len (2 ^ 32)) (option_map (λ (salt : List ℕ). length salt) salt) false ≡ true
-        → length (unwrap_or salt []) < 2 ^ 32
-    of_salt None is = absurd cc
-    of_salt (Some salt) is = ltb-true (length salt) (2 ^ 32) is
-
-    of_kdf : (kdf : Option Data) → unwrap_or (option_map is_argon2 kdf) false ≡ true
-        → length (unwrap_or (option_and_then (base64_member (codes "salt")) kdf) []) < 2 ^ 32
-    of_kdf None is = absurd cc
-    of_kdf (Some kdf) is =
-        of_salt (base64_member (codes "salt") kdf) (and_parts _ _ (and_parts _ _ (and_parts _ _ is).0).0).0
-
-    by : (variant : Option Variant) → (is_some variant && not (passes (codes "kdf") is_argon2 slot)) ≡ false
-        → IsSaltFor (derivation_by variant slot)
-        (unwrap_or (in_member (codes "kdf") (base64_member (codes "salt")) slot) [])
-    by None lacks = tt
-    by (Some variant) lacks = of_kdf (get (codes "kdf") slot) (not-false _ lacks)
+    grind (arith, common_steps, ltb-true, and_parts, not-false)
 
 -- what is needed to open the slot agrees with the header and the limits: its key may be derived in its way, its hash
 -- functions and its area's mode are known, its keys have valid lengths for their modes, its key material is before the
@@ -229,11 +182,7 @@ module _ (tree : Data) (bounds : Bounds) (limits : Limits) (number : ℕ) (slot 
       × (derivation_refusal limits (slot_parts2_of slot).derivation ≡ None)
       × (place_refusal tree bounds limits.max_iterations number (slot_parts2_of slot) ≡ None)
   unfolding reason2_of
-  tables none =
-      let form = none_of_both _ _ none in
-      let material = none_of_both _ _ form.1 in
-      let derivation = none_of_both _ _ material.1 in
-      (form.0, material.0, derivation.0, derivation.1)
+  tables none = grind (arith, common_steps, none_of_both)
 
   pub no_reason : reason2_of tree bounds limits number slot ≡ None
       → NoReason tree bounds limits number (slot_parts2_of slot)
@@ -256,11 +205,7 @@ module _ (tree : Data) (bounds : Bounds) (limits : Limits) (number : ℕ) (slot 
   -- its numbers are in range
   pub range_of : NoReason tree bounds limits number (slot_parts2_of slot) → are_in_range (slot_parts2_of slot) ≡ true
   unfolding is_in_range stripes_out_of_range area_out_of_range
-  range_of none =
-      let area = none.area in
-      let stripes = none.stripes in
-      let derivable = derivable_if limits (slot_parts2_of slot).derivation none.derivation in
-      rw derivable (grind (arith, nat_tests))
+  range_of none = grind (arith, common_steps, derivable_if)
 
   -- what is needed to open it is present, with the digest
   pub slot_there : reason2_of tree bounds limits number slot ≡ None
@@ -281,9 +226,7 @@ module _ (tree : Data) (bounds : Bounds) (limits : Limits) (number : ℕ) (slot 
   pub usable_verdict : reason2_of tree bounds limits number slot ≡ None
       → verdict_kind_of (verdict2_of tree bounds limits number slot) ≡ KindUsable (slot_parts2_of slot).priority
   unfolding verdict2_of slot_of
-  usable_verdict none =
-      let there = slot_there none in
-      rw (none, there.3) refl
+  usable_verdict none = grind (arith, common_steps, slot_there)
 
   pub small_of : reason2_of tree bounds limits number slot ≡ None → IsSmall (slot_parts2_of slot)
   small_of none = material_small (payload_mode2_of tree bounds) (slot_parts2_of slot) (tables none).1
@@ -348,6 +291,4 @@ made2_at tree bounds limits number usable is =
 pub same_slot2 : (tree : Data) (bounds : Bounds) (limits limits' : Limits) (number : ℕ) (usable usable' : Slot)
     → verdict2_at tree bounds limits number ≡ Some (Usable usable)
     → verdict2_at tree bounds limits' number ≡ Some (Usable usable') → usable ≡ usable'
-same_slot2 tree bounds limits limits' number usable usable' is is' =
-    same_Some _ _ (sym (made2_at tree bounds limits number usable is)
-    ∙ made2_at tree bounds limits' number usable' is')
+same_slot2 tree bounds limits limits' number usable usable' is is' = grind (arith, common_steps, same_Some, made2_at)

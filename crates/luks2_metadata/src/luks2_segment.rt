@@ -190,6 +190,7 @@ fn parts(segment: &Value) -> SegmentParts
 }
 
 // The segment of a tree, or its first fault.
+#[tactic(auto, unfolding(crate::specs::Segment2::segment2_of, crate::specs::Segment2::fault2_of))]
 fn segment_in(tree: &Value, bounds: Bounds) -> Result<Segment, SegmentFault>
     ensures { result ≡ segment2_of (data_of tree.now) bounds }
 {
@@ -199,13 +200,7 @@ fn segment_in(tree: &Value, bounds: Bounds) -> Result<Segment, SegmentFault>
     let Some(segment) = the_segment(tree) else {
         return Err(SegmentFault::Segments);
     };
-    if let Some(fault) = fault(segment, bounds) {
-        return Err(fault);
-    }
-    match Segment::from_parts(parts(segment)) {
-        Some(segment) => Ok(segment),
-        None => unreachable!(),
-    }
+    Segment::unless_refused(fault(segment, bounds), parts(segment))
 }
 
 /// The segment of a header with these bounds, or its first fault. This allocates nothing.

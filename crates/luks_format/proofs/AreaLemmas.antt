@@ -1,5 +1,6 @@
 -- An area that loads further bytes: zeros are appended to its bytes, and a source overwrites the first of these zeros.
-use Rattle.std.proofs.Common.{◌≡◌, ℕ, ◌+◌, ◌-◌, ◌<◌, ◌≤◌, List, [], ◌++◌, Option, Some, ◌∙◌, ap, sym, take, drop, length, min}
+use Rattle.std.proofs.lemmas.Grind.{common_steps}
+use Rattle.std.proofs.Common.{◌≡◌, ℕ, ◌+◌, ◌-◌, ◌<◌, ◌≤◌, List, [], ◌++◌, Option, Some, ◌∙◌, ap, take, drop, length, min}
 use Rattle.std.proofs.Common.{append_assoc, arith, length-append, length-drop}
 use Rattle.std.proofs.lemmas.List.{drop_all, take-append-drop, take-append-le, take-take, take_rest, length-replicate}
 use Rattle.std.proofs.Math.ListN.{replicate}
@@ -25,14 +26,7 @@ module _ (old whole buf : List ℕ) (loaded n : ℕ) (is-whole : whole ≡ old +
         let prefix : take loaded whole ≡ old =
         ap (take loaded) is-whole ∙ ap (λ k. take k (old ++ replicate n 0)) is-loaded
         ∙ take-append_seam old (replicate n 0) in
-        is ∙ take-take (loaded + count) len (take loaded whole ++ (buf ++ rest) ++ more)
-        (omega (arith, all, length-capacity))
-        ∙ take-append-le (loaded + count) (take loaded whole ++ (buf ++ rest)) more
-        (omega (arith, ap length prefix, length-append (take loaded whole) (buf ++ rest), length-append buf rest))
-        ∙ ap (λ l. take (loaded + count) (l ++ (buf ++ rest))) prefix
-        ∙ ap (λ k. take (k + count) (old ++ (buf ++ rest))) is-loaded
-        ∙ take-append-add old (buf ++ rest) count
-        ∙ ap (λ l. old ++ l) (take-append-le count buf rest few)
+        grind (arith, common_steps, take-take, length-capacity, take-append-le, length-append, take-append-add)
 
     module _ (known : List ℕ) (left : Option (List ℕ)) (consumed : ConsumedInto known left buf count) where
       -- the bytes that a source gave were appended to those loaded before
@@ -40,14 +34,10 @@ module _ (old whole buf : List ℕ) (loaded n : ℕ) (is-whole : whole ≡ old +
       start_filled image same = record {
         rest = drop count known;
         behind = consumed.0.left;
-        is = same
-            ∙ ap (λ bytes. old ++ bytes) (sym (take-append-drop count known))
-            ∙ sym (append_assoc old (take count known) (drop count known))
-            ∙ ap (λ bytes. bytes ++ drop count known) (sym (prefix_filled ∙ ap (λ l. old ++ l) consumed.1));
+        is = grind (arith, common_steps, take-append-drop, append_assoc, prefix_filled);
       }
 
 -- a source that gave fewer bytes than were requested has no more
 pub none_left : (known buf : List ℕ) (left : Option (List ℕ)) (count : ℕ) → ConsumedInto known left buf count
     → count ≡ min (length buf) (length known) → count < length buf → left ≡ Some []
-none_left known buf left count consumed all few =
-    consumed.0.left ∙ ap Some (drop_all count known (omega (arith, all, few)))
+none_left known buf left count consumed all few = grind (arith, common_steps, drop_all)

@@ -1,5 +1,6 @@
 -- Fields: numbers as the `byteorder` crate reads them, and texts.
-use Rattle.std.proofs.Common.{◌≡◌, ◌∙◌, ℕ, ◌+◌, ◌-◌, ◌≤◌, ◌==◌, List, length, take, drop, ap, arith}
+use Rattle.std.proofs.lemmas.Grind.{common_steps}
+use Rattle.std.proofs.Common.{◌≡◌, ℕ, ◌+◌, ◌-◌, ◌≤◌, ◌==◌, List, length, take, arith}
 use Rattle.std.specs.Prelude.{position}
 use Rattle.std.specs.Option.{unwrap_or}
 use Rattle.std.proofs.lemmas.List.{drop-take, take-take}
@@ -27,5 +28,4 @@ pub at_prefix : (offset len n : ℕ) (image : List ℕ) → offset + len ≤ n
     → at offset len (take n image) ≡ at offset len image
 at_prefix offset len n image before =
     let count : n ≡ offset + (n - offset) = omega arith in
-    ap (take len) (ap (λ m. drop offset (take m image)) count ∙ drop-take offset (n - offset) image)
-    ∙ take-take len (n - offset) (drop offset image) (omega arith)
+    grind (arith, common_steps, drop-take, take-take)

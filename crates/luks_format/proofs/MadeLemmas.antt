@@ -1,5 +1,7 @@
 -- Values made from parts that were read and are in range, and the verdicts on key slots that they give.
-use Rattle.std.proofs.Common.{◌≡◌, ℕ, Bool, true, false, Option, Some, None, Ok, Err, ap, sym, refl, length}
+use Rattle.std.proofs.lemmas.Grind.{common_steps}
+use Rattle.std.proofs.Common.{arith}
+use Rattle.std.proofs.Common.{◌≡◌, ℕ, Bool, true, false, Option, Some, None, Ok, ap, refl, length}
 use Rattle.std.specs.Prelude.{is_none, option_map}
 use Rattle.std.proofs.Math.Bool.{Bool-set}
 use Rattle.std.proofs.lemmas.Option.{none-some, same_Some}
@@ -47,8 +49,7 @@ slot_from-yes parts digest is = ap (option_map (slot_of parts digest)) (evidence
 pub slot_from-no : (parts : SlotParts) (digest : Option KeyDigest) → are_in_range parts ≡ false
     → slot_from parts digest ≡ None
 unfolding slot_from slot_of
-slot_from-no parts (Some digest) is = ap (option_map (slot_of parts digest)) (evidence_if-no (are_in_range parts) is)
-slot_from-no parts None is = refl
+slot_from-no parts digest is = grind (arith, common_steps, slot_of, evidence_if-no)
 
 -- the parts of a digest are in range
 abbrev pub is_usable : DigestParts → Bool
@@ -91,8 +92,7 @@ segment_of_all-yes offset size iv_tweak sector_size mode is =
 -- what was mapped, if a function was mapped over an option and there is a result
 pub mapped : {A B : Type 0} (f : A → B) (o : Option A) (y : B) → option_map f o ≡ Some y
     → (x : A) × (o ≡ Some x) × (f x ≡ y)
-mapped f (Some x) y is = (x, refl, same_Some _ _ is)
-mapped f None y is = absurd cc
+mapped f o y is = grind (arith, common_steps, same_Some)
 
 -- the segment that these parts make starts at the stated offset and has the stated mode
 pub parts_made : (offset : Option ℕ) (size : Option (Option ℕ)) (iv_tweak : Option ℕ) (sector_size : Option SectorSize)
@@ -105,25 +105,15 @@ parts_made (Some offset) (Some size) (Some iv_tweak) (Some sector_size) (Some mo
     (ap (λ (s : Segment). Some s.offset) made.2, ap (λ (s : Segment). Some s.mode) made.2)
 parts_made _ _ _ _ _ segment is = absurd cc
 
--- a segment with a fault is refused with that fault
-pub refused_or-fault : (found : Option SegmentFault) (segment : Option Segment) (fault : SegmentFault)
-    → found ≡ Some fault → refused_or found segment ≡ Err fault
-refused_or-fault (Some found) segment fault is = ap Err (same_Some found fault is)
-refused_or-fault None segment fault is = absurd (none-some fault is)
-
 -- a segment without a fault is the one that was made
 pub refused_or-none : (found : Option SegmentFault) (there : Option Segment) (segment : Segment) → found ≡ None
     → there ≡ Some segment → refused_or found there ≡ Ok segment
-refused_or-none (Some found) there segment none is = absurd (none-some found (sym none))
-refused_or-none None (Some there) segment none is = ap Ok (same_Some there segment is)
-refused_or-none None None segment none is = absurd (none-some segment is)
+refused_or-none found there segment none is = grind (arith, common_steps, none-some, same_Some)
 
 -- a segment that is not refused has no fault and was made
 pub refused_or-ok : (found : Option SegmentFault) (there : Option Segment) (segment : Segment)
     → refused_or found there ≡ Ok segment → (found ≡ None) × (there ≡ Some segment)
-refused_or-ok (Some found) there segment is = absurd cc
-refused_or-ok None (Some there) segment is = (refl, cc)
-refused_or-ok None None segment is = absurd cc
+refused_or-ok found there segment is = grind (arith, common_steps)
 
 -- if the parts of a digest are in range, it is unusable only if its iterations are out of range under the limit
 pub no_usable_digest-yes : (limit : Option ℕ) (parts : DigestParts) → is_usable parts ≡ true
@@ -146,15 +136,12 @@ usable_from_kind _ priority is = absurd cc
 -- if the verdict is that a slot is usable, there is no reason to skip it, and the verdict has what is needed to open it
 pub of_usable : (reason : Option SkipReason) (made : Option Slot) (usable : Slot)
     → verdict_by reason made ≡ Usable usable → (reason ≡ None) × (made ≡ Some usable)
-of_usable (Some reason) made usable is = absurd cc
-of_usable None (Some made) usable is = (refl, cc)
-of_usable None None usable is = absurd cc
+of_usable reason made usable is = grind (arith, common_steps)
 
 -- ---- consequences of a reason to skip a slot that does not hold
 
 pub some_from_not_none : {T : Type 0} (o : Option T) → is_none o ≡ false → (t : T) × (o ≡ Some t)
-some_from_not_none None is = absurd cc
-some_from_not_none (Some t) is = (t, refl)
+some_from_not_none o is = grind (arith, common_steps)
 
 pub digest_there : (limit : Option ℕ) (digest : Option KeyDigest) → has_no_usable_digest limit digest ≡ false
     → (there : KeyDigest) × (digest ≡ Some there)

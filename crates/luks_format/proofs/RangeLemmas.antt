@@ -1,5 +1,6 @@
 -- The bounds of numbers that pass a test, and those of the values that are made only if it holds.
-use Rattle.std.proofs.Common.{◌≡◌, ◌∙◌, ℕ, ◌%◌, ◌≤◌, true, Option, Some, None, ap, sym, length, arith}
+use Rattle.std.proofs.lemmas.Grind.{common_steps}
+use Rattle.std.proofs.Common.{◌≡◌, ℕ, ◌%◌, ◌≤◌, true, Option, length, arith}
 use Rattle.std.proofs.lemmas.Bool.Decides.{nat_tests}
 use Rattle.std.proofs.lemmas.Bool.{and_parts, eqb-true}
 use Rattle.std.proofs.lemmas.Option.{none-some, same_Some}
@@ -40,12 +41,7 @@ pub record InRange (how : Derivation) (stripes end : ℕ) : Type 0 where
 pub in_range : (derivation : Derivation) (stripes end : ℕ) → is_in_range derivation stripes end ≡ true
     → InRange derivation stripes end
 unfolding is_in_range stripes_out_of_range
-in_range derivation stripes end is = record {
-  derivation = derivable derivation (and_parts _ _ (and_parts _ _ is).0).0;
-  some_stripes = grind (arith, nat_tests);
-  few_stripes = grind (arith, nat_tests);
-  loadable = grind (arith, nat_tests);
-}
+in_range derivation stripes end is = grind (arith, common_steps, derivable, and_parts)
 
 -- the numbers of every slot that can be opened are in range
 pub slot_range : (slot : Slot) → InRange slot.parts.derivation slot.parts.stripes (material_end slot.parts)
@@ -77,9 +73,7 @@ HasWholeSectors size sector_size = ForSome size (λ bytes. bytes % bytes_of sect
 
 pub whole_by_test : (size : Option ℕ) (sector_size : SectorSize) → has_whole_sectors size sector_size ≡ true
     → HasWholeSectors size sector_size
-whole_by_test None sector_size is = λ bytes some. absurd (none-some bytes some)
-whole_by_test (Some fixed) sector_size is = λ bytes some.
-    ap (λ n. n % bytes_of sector_size) (sym (same_Some fixed bytes some)) ∙ eqb-true (fixed % bytes_of sector_size) 0 is
+whole_by_test size sector_size is = grind (arith, common_steps, none-some, same_Some, eqb-true)
 
 -- the length of every segment is whole sectors, if it is fixed
 pub segment_whole : (segment : Segment) → HasWholeSectors segment.size segment.sector_size

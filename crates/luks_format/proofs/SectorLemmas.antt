@@ -1,8 +1,8 @@
 -- The lengths of sectors.
-use Rattle.std.proofs.Common.{◌≡◌, ℕ, ◌%◌, ◌≤◌, Some, refl, arith}
+use Rattle.std.proofs.lemmas.Grind.{common_steps}
+use Rattle.std.proofs.Common.{◌≡◌, ℕ, ◌%◌, ◌≤◌, Some, arith}
 use Rattle.luks_format.specs.SectorSize.{bytes_of, sector_size_with}
 use Rattle.luks_format.specs.declared.sector_size.SectorSize.{SectorSize}
-use Rattle.luks_format.specs.declared.sector_size.SectorSize.TheVariants.{B512}
 
 -- a length of sectors: 512 to 4096 bytes, and whole blocks of the cipher
 pub record IsSectorLen (n : ℕ) : Type 0 where
@@ -11,10 +11,8 @@ pub record IsSectorLen (n : ℕ) : Type 0 where
   pub blocks : n % 16 ≡ 0
 
 pub sector_blocks : (size : SectorSize) → IsSectorLen (bytes_of size)
-sector_blocks B512 = record { long = omega arith; short = omega arith; blocks = refl }
-sector_blocks _ = record { long = omega arith; short = omega arith; blocks = refl }
+sector_blocks size = grind (arith, common_steps)
 
 -- a sector size is the one with its number of bytes
 pub sector_size_again : (size : SectorSize) → sector_size_with (bytes_of size) ≡ Some size
-sector_size_again B512 = refl
-sector_size_again _ = refl
+sector_size_again size = grind (arith, common_steps)

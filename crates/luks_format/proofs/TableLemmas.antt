@@ -1,4 +1,5 @@
 -- Tables in which the first line that holds decides, and lists by ascending number.
+use Rattle.std.proofs.lemmas.Grind.{common_steps}
 use Rattle.std.proofs.Common.{◌≡◌, ◌∙◌, ℕ, zero, suc, ◌+◌, ◌<◌, ◌≤◌, ap, sym, refl, Bool, true, false, List, [], ◌∷◌}
 use Rattle.std.proofs.Common.{◌++◌, Option, Some, None, IsSome, ◌⊎◌, inl, inr, subst, length, length-append, add-one}
 use Rattle.std.proofs.Common.{arith}
@@ -28,8 +29,7 @@ ascending_more f n = rw add-one refl
 
 -- a number without a value adds nothing to the list
 pub ascending_not : {T : Type 0} (f : ℕ → Option T) (n : ℕ) → f n ≡ None → ascending f (n + 1) ≡ ascending f n
-ascending_not f n none = ascending_more f n
-    ∙ (ap (λ o. ascending f n ++ cons_option o []) none ∙ append-nil (ascending f n))
+ascending_not f n none = grind (arith, common_steps, ascending_more, append-nil)
 
 -- a number with a value adds this value to the list
 pub ascending_one : {T : Type 0} (f : ℕ → Option T) (n : ℕ) (x : T) → f n ≡ Some x
@@ -49,8 +49,7 @@ length-ascending {T = T} f (suc n) = of_one (f n) (length-ascending f n)
 -- a property of all elements of two lists holds for all elements of both together
 pub AllByRecursion-append : {X : Type 0} (P : X → Type 0) (xs ys : List X) → AllByRecursion P xs → AllByRecursion P ys
     → AllByRecursion P (xs ++ ys)
-AllByRecursion-append P [] ys all others = others
-AllByRecursion-append P (x ∷ xs) ys all others = (all.0, AllByRecursion-append P xs ys all.1 others)
+AllByRecursion-append P xs ys all others = grind (arith, common_steps)
 
 -- a property of each value holds for all elements of the list
 pub All-ascending : {X : Type 0} (P : X → Type 0) (f : ℕ → Option X) (n : ℕ) → ((i : ℕ) (x : X) → f i ≡ Some x → P x)

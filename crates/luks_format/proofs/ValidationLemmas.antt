@@ -1,7 +1,8 @@
 -- Properties of a header whose segment is valid, and of a slot that there is no reason to skip.
-use Rattle.std.proofs.Common.{◌≡◌, ◌≢◌, ◌∙◌, ℕ, ◌+◌, ◌*◌, ◌≤◌, ap, sym, subst, refl, Bool, true, false, Option, Some}
-use Rattle.std.proofs.Common.{None, Ok, Err, arith}
-use Rattle.std.specs.Prelude.{if◌then◌else◌, is_none, option_and_then, slice_get}
+use Rattle.std.proofs.lemmas.Grind.{common_steps}
+use Rattle.std.proofs.Common.{◌≡◌, ◌∙◌, ℕ, ◌+◌, ◌*◌, ◌≤◌, ap, sym, subst, true, false, Option, Some}
+use Rattle.std.proofs.Common.{None, Ok, arith}
+use Rattle.std.specs.Prelude.{option_and_then, slice_get}
 use Rattle.std.proofs.lemmas.Bool.Decides.{nat_tests}
 use Rattle.std.proofs.lemmas.Bool.{not-false}
 use Rattle.std.proofs.lemmas.Option.{same_Some}
@@ -11,20 +12,19 @@ use Rattle.luks_kdf.specs.declared.hash.Hash.{Hash}
 use Rattle.luks_format.specs.Derivation.{is_derivable, is_in_range}
 use Rattle.luks_format.specs.Rule.{exceeds, iterations_out_of_range, area_out_of_range}
 use Rattle.luks_format.specs.Rule.{stripes_out_of_range, key_material_len}
-use Rattle.luks_format.specs.Segment.{segment_from, segment_of_all}
-use Rattle.luks_format.specs.Slot.{digest_from, material_end, verdict_by, verdict_kind_of, slot_from}
+use Rattle.luks_format.specs.Segment.{segment_from}
+use Rattle.luks_format.specs.Slot.{digest_from, material_end, verdict_kind_of, slot_from}
 use Rattle.luks_format.specs.Table.{first_match}
 use Rattle.luks_format.proofs.MadeLemmas.{are_in_range, digest_there, mapped, of_usable, parts_made}
-use Rattle.luks_format.proofs.MadeLemmas.{refused_or-fault, refused_or-none, refused_or-ok, slot_from-yes, slot_of}
+use Rattle.luks_format.proofs.MadeLemmas.{refused_or-none, refused_or-ok, slot_from-yes, slot_of}
 use Rattle.luks_format.proofs.MadeLemmas.{some_from_not_none}
 use Rattle.luks_format.proofs.TableLemmas.{none_holds}
 use Rattle.luks_format.specs.declared.derivation.Derivation.TheVariants.{Pbkdf2}
 use Rattle.luks_format.specs.declared.digest.KeyDigest.{KeyDigest}
-use Rattle.luks_format.specs.declared.refusal.SegmentFault.{SegmentFault}
 use Rattle.luks_format.specs.declared.sector_size.SectorSize.TheVariants.{B512}
 use Rattle.luks_format.specs.declared.segment.Segment.{Segment}
 use Rattle.luks_format.specs.declared.slot.Slot.{Slot}
-use Rattle.luks_format.specs.declared.slot.Verdict.TheVariants.{Usable, Disabled as VerdictDisabled}
+use Rattle.luks_format.specs.declared.slot.Verdict.TheVariants.{Usable}
 use Rattle.luks_format.specs.declared.slot.VerdictKind.TheVariants.{Usable as KindUsable}
 use Rattle.luks_format.specs.Segment1.{is_key_length1, segment1_of}
 use Rattle.luks_format.specs.Segment1.{segment_faults1, segment_parts1_of}
@@ -45,19 +45,6 @@ pub record IsSegment1 (header : Header1) (segment : Segment) : Type 0 where
   pub offset : segment.offset ≡ 512 * header.payload_offset
   pub mode : mode1_of header ≡ Some segment.mode
 
--- if the mode is known, a segment is made
-made_in : (mode : Option Mode) (offset : ℕ) → is_none mode ≡ false
-    → segment_of_all (Some offset) (Some None) (Some 0) (Some B512) mode ≢ None
-made_in None offset known none = cc
-made_in (Some mode) offset known none = cc
-
--- a segment without a fault is made
-pub made1 : (header : Header1) → first_match (segment_faults1 header) ≡ None
-    → segment_from (segment_parts1_of header) ≢ None
-unfolding segment_faults1 segment_from
-made1 header no_fault =
-    made_in (mode1_of header) (512 * header.payload_offset) (none_holds (segment_faults1 header) no_fault).0
-
 -- a header whose segment is valid has that segment and can be read
 pub IsReadable-ok : (header : Header1) (segment : Segment) → segment1_of header ≡ Ok segment
     → IsSegment1 header segment × IsReadable header
@@ -68,20 +55,10 @@ IsReadable-ok header segment is =
     let parts = parts_made (Some (512 * header.payload_offset)) (Some None) (Some 0) (Some B512) (mode1_of header)
     segment made.1 in
     let all = none_holds (segment_faults1 header) made.0 in
-    let readable : IsReadable header = record {
-      mode = some_from_not_none (mode1_of header) all.0;
-      hash = some_from_not_none (hash1_of header) all.1.0;
-      key = not-false (is_key_length1 (mode1_of header) header.key_bytes) all.1.1.0;
-    } in
+    let readable : IsReadable header = grind (arith, common_steps, some_from_not_none, not-false) in
     (record { offset = sym (same_Some _ _ parts.0); mode = parts.1 }, readable)
 
--- a segment with a fault is refused with that fault
-pub segment1-fault : (header : Header1) (fault : SegmentFault) → first_match (segment_faults1 header) ≡ Some fault
-    → segment1_of header ≡ Err fault
-unfolding segment1_of
-segment1-fault header fault is =
-    refused_or-fault (first_match (segment_faults1 header)) (segment_from (segment_parts1_of header)) fault is
-
+-- a segment without a fault is the one that is made
 pub segment1-none : (header : Header1) (segment : Segment) → first_match (segment_faults1 header) ≡ None
     → segment_from (segment_parts1_of header) ≡ Some segment → segment1_of header ≡ Ok segment
 unfolding segment1_of
@@ -134,21 +111,13 @@ module _ (header : Header1) (limit : Option ℕ) (slot : StoredSlot) where
   pub usable_verdict : is_disabled slot.state ≡ false → first_match (slot_reasons1 header limit slot) ≡ None
       → verdict_kind_of (verdict1_of header limit slot) ≡ KindUsable 1
   unfolding verdict1_of slot_of slot_parts1_of
-  usable_verdict enabled none =
-      let there = slot_there none in
-      rw (enabled, none, there.3) refl
+  usable_verdict enabled none = grind (arith, common_steps, slot_there)
 
   -- if the verdict is that the slot can be tried, there is no reason to skip it, and this is what is needed to open it
   of_verdict : (usable : Slot) → verdict1_of header limit slot ≡ Usable usable
       → (first_match (slot_reasons1 header limit slot) ≡ None) × (slot1_of header slot ≡ Some usable)
   unfolding verdict1_of
-  of_verdict usable is = by (is_disabled slot.state) is where
-    by : (disabled : Bool)
-        → (if disabled then VerdictDisabled
-        else verdict_by (first_match (slot_reasons1 header limit slot)) (slot1_of header slot)) ≡ Usable usable
-        → (first_match (slot_reasons1 header limit slot) ≡ None) × (slot1_of header slot ≡ Some usable)
-    by true h = absurd cc
-    by false h = of_usable (first_match (slot_reasons1 header limit slot)) (slot1_of header slot) usable h
+  of_verdict usable is = grind (arith, common_steps, of_usable)
 
   -- if the slot can be tried, what is needed to open it is from this header
   usable_is : (usable : Slot) → verdict1_of header limit slot ≡ Usable usable
@@ -160,14 +129,8 @@ module _ (header : Header1) (limit : Option ℕ) (slot : StoredSlot) where
       let there = slot_there verdict.0 in
       let same : usable ≡ slot_of (slot_parts1_of header slot) there.0 there.2 =
       same_Some _ _ (sym verdict.1 ∙ there.3) in
-      let known : IsOf header (slot_of (slot_parts1_of header slot) there.0 there.2) = record {
-        kdf = (slot.iterations, refl);
-        af = refl;
-        volume_key = refl;
-        area_key = refl;
-        area_mode = refl;
-        before_payload = (area_in_range header slot all.1.1.1.0).0;
-      } in
+      let known : IsOf header (slot_of (slot_parts1_of header slot) there.0 there.2) =
+      grind (arith, common_steps, area_in_range) in
       (subst (IsOf header) (sym same) known, verdict.1)
 
 -- if the slot of this number can be tried, this is what is needed to open it, and it is from this header

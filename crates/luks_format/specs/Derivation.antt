@@ -1,8 +1,7 @@
 -- How keys are derived from passphrases: the ranges of the numbers (for Argon2: RFC 9106, section 3.1), and what
 -- deriving may cost.
-use Rattle.std.specs.Prelude.{ℕ, ◌*◌, ◌^◌, ◌<◌, ◌≤◌, ◌==◌, ◌&&◌, ◌||◌, not, nat_le, nat_lt, Bool, true, List, [], ◌∷◌, Option}
+use Rattle.std.specs.Prelude.{ℕ, ◌*◌, ◌^◌, ◌<◌, ◌≤◌, ◌==◌, ◌&&◌, ◌||◌, not, nat_le, nat_lt, Bool, true, [], ◌∷◌, Option}
 use Rattle.std.specs.Prelude.{Some, None, if◌then◌else◌, is_some, option_map}
-use Rattle.luks_kdf.specs.declared.hash.Hash.{Hash}
 use Rattle.luks_format.specs.Area.{max_loaded_len}
 use Rattle.luks_format.specs.Rule.{exceeds, iterations_out_of_range, max_iteration_count, stripes_out_of_range}
 use Rattle.luks_format.specs.Table.{first_match}

@@ -3,6 +3,7 @@
 ghost use Rattle.std.specs.Prelude.{◌≡◌, true};
 ghost use Rattle.luks_format.specs.SectorSize.{has_whole_sectors};
 
+use crate::refusal::SegmentFault;
 use crate::sector_size::SectorSize;
 use luks_cipher::Mode;
 
@@ -49,7 +50,7 @@ fn has_whole_sectors(size: Option<u64>, sector_size: SectorSize) -> bool
 
 impl Segment {
     ghost use Rattle.std.specs.Prelude.{◌≡◌};
-    ghost use Rattle.luks_format.specs.Segment.{segment_from};
+    ghost use Rattle.luks_format.specs.Segment.{refused_or, segment_from};
 
     /// The segment with these parts, if each is present and in range.
     #[tactic(auto, unfolding(crate::specs::Segment::segment_from))]
@@ -71,5 +72,18 @@ impl Segment {
             sector_size,
             mode,
         })
+    }
+
+    /// The segment with these parts, unless it has a fault.
+    pub fn unless_refused(
+        fault: Option<SegmentFault>,
+        parts: SegmentParts,
+    ) -> Result<Segment, SegmentFault>
+        ensures { result ≡ refused_or fault (segment_from parts) }
+    {
+        match fault {
+            Some(fault) => Err(fault),
+            None => Segment::from_parts(parts).ok_or(SegmentFault::Member),
+        }
     }
 }

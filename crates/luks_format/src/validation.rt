@@ -220,12 +220,10 @@ fn fault(header: &Header1) -> Option<SegmentFault>
 }
 
 /// The segment of a header, or its first fault. This allocates nothing.
+#[tactic(auto, unfolding(crate::specs::Segment1::segment1_of))]
 pub fn segment(header: &Header1) -> Result<Segment, SegmentFault>
     ensures { result ≡ segment1_of header.now }
 {
-    if let Some(fault) = fault(header) {
-        return Err(fault);
-    }
     let parts = SegmentParts {
         offset: Some(sector_offset(header.payload_offset)),
         size: Some(None),
@@ -233,8 +231,5 @@ pub fn segment(header: &Header1) -> Result<Segment, SegmentFault>
         sector_size: Some(SectorSize::B512),
         mode: header.mode(),
     };
-    match Segment::from_parts(parts) {
-        Some(segment) => Ok(segment),
-        None => unreachable!(),
-    }
+    Segment::unless_refused(fault(header), parts)
 }

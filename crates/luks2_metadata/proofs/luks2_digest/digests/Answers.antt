@@ -1,8 +1,6 @@
-use Rattle.std.proofs.Common.{◌≡◌, ◌∙◌, ◌++◌, [], ℕ, List, Option, sym, ap, arith, length}
-use Rattle.std.specs.List.{cons_option}
-use Rattle.luks2_metadata.specs.declared.luks2_digest.Digest.{Digest}
+use Rattle.std.proofs.lemmas.Grind.{common_steps}
+use Rattle.std.proofs.Common.{◌≡◌, ◌∙◌, sym, ap, arith}
 use Rattle.luks_format.proofs.TableLemmas.{length-ascending, ascending_more, ascending_none}
-use Rattle.luks_format.specs.Table.{ascending}
 use Rattle.luks2_metadata.specs.Digest2.{digest2_numbered, digests2_of}
 use Rattle.luks2_metadata.proofs.luks2_digest.digests.Goals as goal
 
@@ -15,23 +13,13 @@ loop-number-preserved c =
     let n = c.loop-number.number in
     let here : c.in_ok-digest.digest ≡ f n =
     c.in_ok-digest.ensures ∙ ap (λ tree. digest2_numbered tree n) c.tree.ensures in
-    c.in_ok-push_digest.ensures
-    ∙ ap (λ (l : List (ℕ × Option Digest)). l ++ cons_option c.in_ok-digest.digest []) c.loop-number.invariant
-    ∙ ap (λ digest. ascending f n ++ cons_option digest []) here
-    ∙ sym (ascending_more f n)
+    grind (arith, common_steps, ascending_more, c.in_ok-push_digest.ensures, c.loop-number.invariant)
 
 pub returns-clause-value : goal.returns-clause-value
 unfolding digests2_of
-returns-clause-value c =
-    let end : c.loop-number.number ≡ 32 = omega arith in
-    c.loop-number.invariant ∙ ap (ascending (digest2_numbered c.args.metadata.now)) end
+returns-clause-value c = grind (arith, common_steps, c.loop-number.invariant)
 
 pub returns-clause-few : goal.returns-clause-few
 returns-clause-few c =
     let end : c.loop-number.number ≡ 32 = omega arith in
-    omega (
-      arith,
-      ap length c.loop-number.invariant,
-      length-ascending (digest2_numbered c.args.metadata.now) c.loop-number.number,
-      c.loop-number.digests.ok.0,
-    )
+    grind (arith, common_steps, length-ascending, c.loop-number.invariant)

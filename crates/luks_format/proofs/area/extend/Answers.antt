@@ -30,8 +30,6 @@ returns-in-Ok-clause-whole g c hits known knows =
     let n = c.args.end - vec_len c.args.bytes.now in
     let is-whole = c.deref_mut.ensures.value ∙ c.in_ok-append_zeros.ensures.ok in
     let is-loaded = c.len-loaded.ensures ∙ c.args.bytes.now.ok.0 in
-    let capacity : length c.fill.new.buf ≡ n =
-    length-capacity c.args.bytes.now.items c.deref_mut.result.now c.fill.new.buf c.len-loaded.result n is-whole is-loaded
-    c.fill.auto.buf in
+    let capacity : length c.fill.new.buf ≡ n = grind (arith, common_steps, length-capacity) in
     let few : c.in-Ok.count < length c.fill.new.buf = grind (arith, hits, capacity, common_steps) in
     none_left known c.fill.new.buf _ c.in-Ok.count (c.in-Ok.ensures.bytes known knows) (c.in-Ok.ensures.end known knows) few

@@ -1,10 +1,7 @@
-use Rattle.std.proofs.Common.{◌∙◌, ap, length, take}
-use Rattle.std.specs.Option.{unwrap_or}
+use Rattle.std.proofs.lemmas.Grind.{common_steps}
+use Rattle.std.proofs.Common.{arith}
 use Rattle.luks_format.proofs.FieldLemmas.{take-first_zero}
 use Rattle.luks_format.proofs.text.text_before_zero.Goals as goal
 
 pub returns : goal.returns
-returns c =
-    ap (λ n. take n c.args.field.now)
-    (c.unwrap_or.ensures ∙ ap (λ o. unwrap_or o (length c.args.field.now)) c.first_zero.ensures)
-    ∙ take-first_zero c.args.field.now
+returns c = grind (arith, common_steps, take-first_zero)

@@ -1,12 +1,12 @@
-use Rattle.std.proofs.Common.{◌∙◌, ap, sym, refl}
-use Rattle.std.specs.Prelude.{not}
+use Rattle.std.proofs.lemmas.Grind.{common_steps}
+use Rattle.std.proofs.Common.{arith}
+use Rattle.std.proofs.Common.{refl}
 use Rattle.luks_format.proofs.MadeLemmas.{no_usable_digest-no, no_usable_digest-yes}
 use Rattle.luks_format.proofs.digest.DigestParts.no_usable_digest.Goals as goal
 
 pub returns-then-not-usable_digest : goal.returns-then-not-usable_digest
 returns-then-not-usable_digest c parts iterations len =
-    ap not c.if-not-usable_digest.true ∙ sym (no_usable_digest-no c.args.limit parts
-    (rw (iterations, len, ← c.from.ensures, ← c.usable_digest.ensures) c.if-not-usable_digest.true))
+    grind (arith, common_steps, no_usable_digest-no, c.from.ensures, c.usable_digest.ensures)
 
 pub returns-else-not-usable_digest : goal.returns-else-not-usable_digest
 returns-else-not-usable_digest c parts iterations len =
