@@ -114,8 +114,8 @@ abbrev pub area2_out_of_range : ℕ → Option ℕ → SlotParts → Bool
 area2_out_of_range end payload parts =
     area_out_of_range end payload parts.area_offset parts.area_size (key_material_len parts.key_bytes parts.stripes)
 
--- the reasons to skip a slot because of what it is and of the function that derives its key. Without limits for Argon2 no
--- key is derived by it
+-- the reasons to skip a slot because of what it is and of the function that derives its key. Without limits for Argon2
+-- no key is derived by it
 abbrev pub form_reasons : Limits → Data → List (Bool × SkipReason)
 form_reasons limits slot =
     (not (is_type (codes "luks2") slot), Kind)

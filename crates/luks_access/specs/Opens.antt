@@ -84,10 +84,10 @@ OpensAsLuksCat options header pass = IfOk (reader_for options.location header) N
     → opening_with options header pass
     ≡ volume_opening_by (reader_for options.location) (pbkdf2_alone options.slots) header pass
 
--- a volume was opened (`opens`): what `luksCat` would write if it tried the same key slots is its plaintext (`cats`), and
--- so is what `luksCat` writes of each volume with the same segment and volume key, whichever key slot was opened here
--- (`cats_by_key`). If it was sealed honestly, with an attached header, that is the plaintext that was sealed, and it is
--- whole (`honest`)
+-- a volume was opened (`opens`): what `luksCat` would write if it tried the same key slots is its plaintext (`cats`),
+-- and so is what `luksCat` writes of each volume with the same segment and volume key, whichever key slot was opened
+-- here (`cats_by_key`). If it was sealed honestly, with an attached header, that is the plaintext that was sealed, and
+-- it is whole (`honest`)
 pub record OpensVolume (options : Options) (header pass : List ℕ) (v : UnlockedVolume) : Type 0 where
   pub opens : Opens options header pass v
   pub as_luks_cat : OpensAsLuksCat options header pass
@@ -99,8 +99,8 @@ pub record OpensVolume (options : Options) (header pass : List ℕ) (v : Unlocke
 
 -- no volume was opened. Unless memory ran out or a read failed, opening ends with this fault (`refuses`), and the
 -- image is no honestly sealed volume, with an attached header, that this passphrase opens (`no_honest`). Memory for the
--- key slots runs out only if some can be tried (`memory`). So does memory for Argon2, and only if there are limits for it
--- (`argon2`)
+-- key slots runs out only if some can be tried (`memory`). So does memory for Argon2, and only if there are limits for
+-- it (`argon2`)
 pub record RefusesVolume (options : Options) (header pass : List ℕ) (fault : VolumeFault) : Type 0 where
   pub refuses : aborts_opening fault ≡ false → Refuses options header pass fault
   pub as_luks_cat : OpensAsLuksCat options header pass

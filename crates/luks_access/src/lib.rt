@@ -1,7 +1,7 @@
 //! Any part of a volume's plaintext, from an image that is read at offsets.
 //!
-//! A [`Volume`](volume::Volume) is opened by a passphrase as `luksCat` opens it, or also by key slots
-//! that need Argon2. Each range that it reads is that part of what `luksCat` writes.
+//! A [`Volume`](volume::Volume) is opened by a passphrase as `luksCat` opens it, or also by key
+//! slots that need Argon2. Each range that it reads is that part of what `luksCat` writes.
 #![tactic(auto)]
 
 pub use luks_header::derivation::Argon2Limits;

@@ -109,7 +109,8 @@ audit_value minimum file offset header =
     (with_lists (slot_list header) (digest_list header) (token_list header)
     (with_volume header (with_fields (place_fields file offset) (with_fields program_fields empty_object))))
 
--- nothing is wrong, and nothing weak that is as severe as the policy asks for. What luksrd does not support is not wrong
+-- nothing is wrong, and nothing weak that is as severe as the policy asks for. What luksrd does not support is not
+-- wrong
 unfoldable pub is_clean : Policy → Header → Bool
 is_clean policy header =
     (length (finding_values (finding_list header)) == 0)

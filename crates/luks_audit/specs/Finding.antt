@@ -1,4 +1,5 @@
--- The findings of luksCheck, in two lists: what is wrong, and what luksrd does not support in a header that may be sound.
+-- The findings of luksCheck, in two lists: what is wrong, and what luksrd does not support in a header that may be
+-- sound.
 use Rattle.std.specs.Prelude.{ℕ, Bool, true, false, List, [], ◌∷◌, flat_map, if◌then◌else◌, not}
 use Rattle.luks_report.specs.Findings.{finding_text}
 use Rattle.luks_report.specs.declared.findings.Finding.{Finding}

@@ -1,5 +1,5 @@
-//! The fields of a header of either format, as they are listed. A field is `None` if the header does not have it, or has
-//! it in a form that is not the standard's.
+//! The fields of a header of either format, as they are listed. A field is `None` if the header
+//! does not have it, or has it in a form that is not the standard's.
 
 use crate::text::Text;
 use crate::tree::Tree;

@@ -174,12 +174,12 @@ fn write_all<H: Images, O: Sink>(
 ///
 /// What is written is `audit_text` of the names, of what the host has under them, and of the course
 /// of each audit. A course is determined by what the host has, but for faults: an image that is
-/// there is opened unless memory runs out, and an absent one is not. "Read failed" is written for as many images as have
-/// had a failed read. If a write fails, or memory runs out for a line, a prefix of that text is
-/// written; the run ends with `WriteFailed` exactly if a write failed. This holds for images of any
-/// length; a search lists the headers in their first 2^63 bytes. If the host does not know the
-/// bytes of an image, its text without a search is that of some header or fault; nothing is said of
-/// the text of a search then.
+/// there is opened unless memory runs out, and an absent one is not. "Read failed" is written for
+/// as many images as have had a failed read. If a write fails, or memory runs out for a line, a
+/// prefix of that text is written; the run ends with `WriteFailed` exactly if a write failed. This
+/// holds for images of any length; a search lists the headers in their first 2^63 bytes. If the
+/// host does not know the bytes of an image, its text without a search is that of some header or
+/// fault; nothing is said of the text of a search then.
 pub fn run<H: Images, O: Sink>(
     alloc: Global,
     policy: Policy,

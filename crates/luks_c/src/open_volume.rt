@@ -1,5 +1,5 @@
-//! Opening a volume by a passphrase or by its key, and comparing a volume key with a header. Nothing
-//! here is inlined in the functions for C, which write over the stack that this uses.
+//! Opening a volume by a passphrase or by its key, and comparing a volume key with a header.
+//! Nothing here is inlined in the functions for C, which write over the stack that this uses.
 
 ghost use Rattle.std.specs.Prelude.{◌≡◌, ◌≢◌, MatchOption};
 ghost use Rattle.luks_c.specs.Keys.{AnswersComparing, AnswersOpeningByKey, IsOfKey, check_code};

@@ -10,8 +10,8 @@ use Rattle.luks_host.specs.declared.system.InputFault.TheVariants.{NotOpened, Me
 use Rattle.luks_host.specs.Inputs.{is_refused}
 use Rattle.luks_host.specs.Targets.{Finds, Shows, TellsOutput}
 
--- whether an input of this kind is refused, if memory did not run out before it was known whether standard output writes
--- to it
+-- whether an input of this kind is refused, if memory did not run out before it was known whether standard output
+-- writes to it
 abbrev pub refused_if : FileKind → Result Bool AllocError → Result Bool AllocError
 refused_if kind (Ok is_output) = Ok (is_refused kind is_output)
 refused_if kind (Err fault) = Err fault

@@ -18,8 +18,8 @@ pub fn is_refused(kind: FileKind, is_output: bool) -> bool
     }
 }
 
-/// An open input: a file, a pipe or a device with a name, standard input, or none. Each is read only
-/// as far as a command requests or allows, so that the next program can read the rest.
+/// An open input: a file, a pipe or a device with a name, standard input, or none. Each is read
+/// only as far as a command requests or allows, so that the next program can read the rest.
 #[derive(Drop)]
 pub enum Input<F, S> {
     Named(F),

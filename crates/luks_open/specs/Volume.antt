@@ -184,8 +184,8 @@ pub record OpeningMatches (opening : VolumeOpening) (image : List ℕ) (result :
   pub consumed : ConsumedUnless (has_fault aborts_opening result) image left opening.consumed
 
 -- the key slots of a volume were tried under a passphrase, with these bytes of its image loaded: the result is the
--- volume that they open, or their fault, or memory that Argon2 needs for one of them was refused. Otherwise not all key material was loaded: the image ended before, a read
--- failed, or memory ran out
+-- volume that they open, or their fault, or memory that Argon2 needs for one of them was refused. Otherwise not all key
+-- material was loaded: the image ended before, a read failed, or memory ran out
 abbrev pub TriesSlots : Volume → List ℕ → List ℕ → Result UnlockedVolume VolumeFault → Type 0
 TriesSlots volume area pass (Ok opened) = (key_material_end volume.order.entries ≤ length area)
     × (opened.segment ≡ volume.segment) × (opening_of volume.order area pass ≡ Ok (opened_of opened))
@@ -225,8 +225,8 @@ abbrev pub UnlessRefused : {T : Type 0} → Result T VolumeFault → Type 0 → 
 UnlessRefused (Err (V.Argon2Memory slot memory)) P = Unit {0}
 UnlessRefused _ P = P
 
--- this much memory that Argon2 needs for the key of this slot was refused. Its turn came after the first `tried`, none of
--- which opens. These were counted
+-- this much memory that Argon2 needs for the key of this slot was refused. Its turn came after the first `tried`, none
+-- of which opens. These were counted
 pub record CountsRefused (order : OrderModel) (area pass : List ℕ) (slot memory work work' blocks blocks' : ℕ) : Type 0
   where
     pub tried : ℕ

@@ -5,7 +5,8 @@ use Rattle.luks_format.specs.declared.derivation.Derivation.{Derivation}
 use Rattle.luks_format.specs.declared.derivation.Derivation.TheVariants.{Pbkdf2, Argon2}
 use Rattle.luks_open.specs.Deriving.{IsPbkdf2}
 
--- PBKDF2 with a known hash function and iterations in range, or Argon2 with parameters, a passphrase and a salt in range
+-- PBKDF2 with a known hash function and iterations in range, or Argon2 with parameters, a passphrase and a salt in
+-- range
 abbrev pub CanDerive : Derivation → List ℕ → List ℕ → Type 0
 CanDerive (Pbkdf2 hash iterations) pass salt = IsPbkdf2 (Pbkdf2 hash iterations)
 CanDerive (Argon2 parameters) pass salt =

@@ -1,4 +1,5 @@
-//! Deriving the key of a slot's key material from a passphrase, by the functions that a program has.
+//! Deriving the key of a slot's key material from a passphrase, by the functions that a program
+//! has.
 
 ghost use Rattle.std.specs.Prelude.{◌≡◌, ◌+◌, ◌≤◌, ℕ, List, IfErr, IfOk, OnErr, OnOk, Some, length};
 ghost use Rattle.luks_kdf.specs.Pbkdf2.{capped};

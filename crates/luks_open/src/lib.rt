@@ -1,6 +1,6 @@
-//! Opening a volume by a passphrase: its header, at its location; the order in which its key slots are
-//! tried, within limits; the keys that they give, by PBKDF2 and Argon2; the volume key, and the digest
-//! that it has to match.
+//! Opening a volume by a passphrase: its header, at its location; the order in which its key slots
+//! are tried, within limits; the keys that they give, by PBKDF2 and Argon2; the volume key, and the
+//! digest that it has to match.
 #![tactic(auto)]
 
 pub mod allowed;

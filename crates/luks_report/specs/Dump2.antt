@@ -72,8 +72,8 @@ kdf_text (Argon2 parameters) =
     variant_text parameters.variant ++ codes " time=" ++ decimal parameters.passes ++ codes " memory="
     ++ decimal parameters.memory_kib ++ codes " cpus=" ++ decimal parameters.lanes
 
--- the text of a key slot that can be tried: its priority, how its key is derived, and the offset and the size of its area
--- in bytes
+-- the text of a key slot that can be tried: its priority, how its key is derived, and the offset and the size of its
+-- area in bytes
 unfoldable pub usable_text : SlotParts → List ℕ
 usable_text parts =
     codes "USABLE priority=" ++ decimal parts.priority ++ codes " kdf=" ++ kdf_text parts.derivation

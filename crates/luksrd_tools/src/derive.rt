@@ -1,8 +1,8 @@
-//! Derives keys by PBKDF2, and reports the cost: `derive sha256 100000 64` derives a key of 64 bytes
-//! with 100000 iterations, and writes the evaluations of HMAC, the nanoseconds of processor time
-//! and the key to standard error. Each further number is one more length, and gets a line of its
-//! own. With no further arguments, or with others, it does nothing. `tests/test_keys.py` compares
-//! the keys with hashlib's, and `bench/measure` the cost with that of others.
+//! Derives keys by PBKDF2, and reports the cost: `derive sha256 100000 64` derives a key of 64
+//! bytes with 100000 iterations, and writes the evaluations of HMAC, the nanoseconds of processor
+//! time and the key to standard error. Each further number is one more length, and gets a line of
+//! its own. With no further arguments, or with others, it does nothing. `tests/test_keys.py`
+//! compares the keys with hashlib's, and `bench/measure` the cost with that of others.
 
 ghost use Rattle.std.specs.Prelude.{◌≤◌};
 
