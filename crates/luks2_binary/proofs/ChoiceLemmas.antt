@@ -83,7 +83,8 @@ module _ (loaded more image : List ℕ) (is : image ≡ loaded ++ more) where
       let size = size_at loaded 0 in
       let first = at_more loaded more image is 0 4096 (omega (arith, range.0)) in
       let second = at_more loaded more image is size 4096 (omega (arith, range.1, whole)) in
-      let probe : probe_end loaded size ≤ length loaded = by_fit size (fits loaded size) refl (range.1, range.2) whole in
+      let probe : probe_end loaded size ≤ length loaded =
+      by_fit size (fits loaded size) refl (range.1, range.2) whole in
       rw (first, valid_more loaded more image is size probe, second) refl
     where
       by_fit : (size : ℕ) (fit : Bool) → fits loaded size ≡ fit → (16384 ≤ size) × (size ≤ 4194304)

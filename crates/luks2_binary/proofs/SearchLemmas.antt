@@ -96,7 +96,8 @@ module _ (loaded : List ℕ) (count : ℕ) (before : IsSearchOf loaded (Passed c
       unfolding furthest
       search_passed none = record {
         first =
-            rw (up_to, find-append {X = ℕ} (is_valid loaded) (take count offsets) (offset ∷ []), before.first, none) refl;
+            rw (up_to, find-append {X = ℕ} (is_valid loaded) (take count offsets) (offset ∷ []), before.first, none)
+            refl;
         whole = rw (up_to, walk_on loaded (take count offsets) (offset ∷ []) before.first, none)
             (omega (arith, before.whole, whole));
       }

@@ -129,7 +129,8 @@ module _ (loaded more image : List ℕ) (is : image ≡ loaded ++ more) where
   ]
 
   -- if all bytes that are read to check it are loaded, a header is valid in the image if and only if it is there
-  pub valid_more : (offset : ℕ) → probe_end loaded offset ≤ length loaded → is_valid image offset ≡ is_valid loaded offset
+  pub valid_more : (offset : ℕ) → probe_end loaded offset ≤ length loaded
+      → is_valid image offset ≡ is_valid loaded offset
   unfolding is_valid
   valid_more offset whole = by (fits loaded offset) refl where
     there : offset + 4096 ≤ length loaded

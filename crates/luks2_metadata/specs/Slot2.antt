@@ -152,7 +152,8 @@ place_reasons tree bounds max_iterations number parts =
 
 -- the first of them
 unfoldable pub place_refusal : Data → Bounds → Option ℕ → ℕ → SlotParts → Option SkipReason
-place_refusal tree bounds max_iterations number parts = first_match (place_reasons tree bounds max_iterations number parts)
+place_refusal tree bounds max_iterations number parts =
+    first_match (place_reasons tree bounds max_iterations number parts)
 
 -- the first reason to skip the slot of this number, in a header with these bounds
 unfoldable pub reason2_of : Data → Bounds → Limits → ℕ → Data → Option SkipReason

@@ -34,7 +34,8 @@ module _ (policy : Policy) (scope : Scope) (stored : List ℕ → Stored) where
 
   text_more : (images : List Audited) (one : Audited)
       → audit_text policy scope stored (images ++ one ∷ [])
-      ≡ audit_text policy scope stored images ++ image_text policy scope one.file (bytes_in (stored one.file)) one.course
+      ≡ audit_text policy scope stored images
+      ++ image_text policy scope one.file (bytes_in (stored one.file)) one.course
   unfolding audit_text
   text_more images one =
       let f : Audited → List ℕ = λ any. image_text policy scope any.file (bytes_in (stored any.file)) any.course in

@@ -101,8 +101,8 @@ compress h m t f = folded h (rounds m (working_vector h t f) 12)
 -- digest length, a key length of 0, fanout 1 and depth 1 are not 0 (2.5, 3.3)
 abbrev pub initial_hash : ℕ → List ℕ
 initial_hash n =
-    bit_xor (bit_xor (slice_index iv 0) 0x01010000) n ∷ slice_index iv 1 ∷ slice_index iv 2 ∷ slice_index iv 3 ∷ slice_index iv 4
-    ∷ slice_index iv 5 ∷ slice_index iv 6 ∷ slice_index iv 7 ∷ []
+    bit_xor (bit_xor (slice_index iv 0) 0x01010000) n ∷ slice_index iv 1 ∷ slice_index iv 2 ∷ slice_index iv 3
+    ∷ slice_index iv 4 ∷ slice_index iv 5 ∷ slice_index iv 6 ∷ slice_index iv 7 ∷ []
 
 -- dd - 1: how many blocks a message has before its last one (3.3: ceil (ll / 128), and 1 for an empty message)
 abbrev pub blocks_before_last : List ℕ → ℕ

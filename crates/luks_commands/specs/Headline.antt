@@ -203,8 +203,8 @@ CountsWork location _ message trial = trial.work.after ≡ trial.work.before
 abbrev pub WritesPlain : Request → Message → Option (List ℕ) → Option (List ℕ) → Change (Option (List ℕ)) → Type 0
 WritesPlain (luks_cat o) message image secret output =
     IfKnown image (λ known. IfKnown secret (λ passphrase.
-    (plain : List ℕ) → length known < 2 ^ 64 → OpensHonest (pbkdf2_alone o.slots) known passphrase plain → aborts message ≡ false
-    → (message ≡ Done) × Appended output.before output.after plain))
+    (plain : List ℕ) → length known < 2 ^ 64 → OpensHonest (pbkdf2_alone o.slots) known passphrase plain
+    → aborts message ≡ false → (message ≡ Done) × Appended output.before output.after plain))
 WritesPlain _ message image secret output = Unit {0}
 
 -- ---- `only`: the messages
@@ -229,8 +229,10 @@ Knows device Holds = (known : List ℕ) × (device ≡ Some known) × Holds know
 -- the command has no second input, or needs none of it: the header, read in this way, the segment, the order of the key
 -- slots or, for `afSplit`, the length of the key to be split ends the run
 abbrev pub NeedsNoSecret : HeaderReader → Request → Option (List ℕ) → Type 0
-NeedsNoSecret read (test_passphrase o) image = Knows image (λ known. is_err (volume_by read (pbkdf2_alone o.slots) known) ≡ true)
-NeedsNoSecret read (luks_cat o) image = Knows image (λ known. is_err (volume_by read (pbkdf2_alone o.slots) known) ≡ true)
+NeedsNoSecret read (test_passphrase o) image =
+    Knows image (λ known. is_err (volume_by read (pbkdf2_alone o.slots) known) ≡ true)
+NeedsNoSecret read (luks_cat o) image =
+    Knows image (λ known. is_err (volume_by read (pbkdf2_alone o.slots) known) ≡ true)
 NeedsNoSecret read (af_split s) image = Knows image (λ known. (length known ≡ 0) ⊎ (max_key_len < length known))
 NeedsNoSecret read _ image = Unit {0}
 

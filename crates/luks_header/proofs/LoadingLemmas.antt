@@ -137,7 +137,8 @@ loading_aborted image old new left left' end ends ends' fault start after loads 
             same,
             λ luks1.
                 let few = first_near image old.bytes left start luks1 end need more in
-                subst (ConsumedExactly image left') (ap (λ area. length area.bytes) (kept memory) ∙ ap length (first few)) all,
+                subst (ConsumedExactly image left')
+                (ap (λ area. length area.bytes) (kept memory) ∙ ap length (first few)) all,
           ))
     ]
 
@@ -226,7 +227,8 @@ module _ (area : HeaderAreaModel) (within : length area.bytes ≤ probe_len area
       ends ended = (let same : Some start.rest ≡ Some [] = sym start.behind ∙ emptied ended in cc)
 
     consumed_all : ConsumedExactly image left (header_read_len image)
-    consumed_all = subst (ConsumedExactly image left) (sym all_image.read_len) (start_consumed image area.bytes left start)
+    consumed_all =
+        subst (ConsumedExactly image left) (sym all_image.read_len) (start_consumed image area.bytes left start)
 
     -- a header was read
     pub header_read : (header : Header) → header_of area.bytes ≡ Ok header

@@ -10,4 +10,5 @@ binary_at-requires-2 c = (let range = valid_range c.args.bytes.now 0 c.requires 
 
 pub binary_at-requires-3 : goal.binary_at-requires-3
 binary_at-requires-3 c =
-    (let range = valid_range c.args.bytes.now c.size_in-size.result (sym c.is_valid.ensures ∙ c.if-not-is_valid.false) in range.0)
+    (let range = valid_range c.args.bytes.now c.size_in-size.result (sym c.is_valid.ensures ∙ c.if-not-is_valid.false)
+    in range.0)

@@ -10,8 +10,9 @@ returns-in-Ok-clause-start g c image start =
     let is-loaded = c.len-loaded.ensures ∙ c.args.bytes.now.ok.0 in
     let is-len = c.append_zeros.new.bytes.ok.0 ∙ ap length (sym c.deref_mut.ensures.value) in
     start_filled c.args.bytes.now.items c.deref_mut.result.now c.fill.new.buf c.len-loaded.result n is-whole is-loaded
-    c.fill.auto.buf _ _ c.truncate.new.self.items c.append_zeros.new.bytes.len c.in-Ok.count is-len c.in-Ok.ensures.bound
-    c.truncate.ensures.items start.rest _ (c.in-Ok.ensures.bytes start.rest start.behind) image start.is
+    c.fill.auto.buf _ _ c.truncate.new.self.items c.append_zeros.new.bytes.len c.in-Ok.count is-len
+    c.in-Ok.ensures.bound c.truncate.ensures.items start.rest _ (c.in-Ok.ensures.bytes start.rest start.behind) image
+    start.is
 
 pub returns-in-Err-clause-start : goal.returns-in-Err-clause-start
 returns-in-Err-clause-start g c image start =
@@ -32,4 +33,5 @@ returns-in-Ok-clause-whole g c hits known knows =
     let is-loaded = c.len-loaded.ensures ∙ c.args.bytes.now.ok.0 in
     let capacity : length c.fill.new.buf ≡ n = grind (arith, common_steps, length-capacity) in
     let few : c.in-Ok.count < length c.fill.new.buf = grind (arith, hits, capacity, common_steps) in
-    none_left known c.fill.new.buf _ c.in-Ok.count (c.in-Ok.ensures.bytes known knows) (c.in-Ok.ensures.end known knows) few
+    none_left known c.fill.new.buf _ c.in-Ok.count (c.in-Ok.ensures.bytes known knows) (c.in-Ok.ensures.end known knows)
+    few

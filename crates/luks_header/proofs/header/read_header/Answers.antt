@@ -20,7 +20,8 @@ loop-end-preserved g c =
       start = λ image knows. call.start image (c.loop-end.invariant.start image knows);
       emptied = λ hit image knows.
           let start = c.loop-end.invariant.start image knows in
-          let ended = more_ended old new c.in-Some.end whole call.loads c.in-Some.ensures.live next.0 next.1 call.ended in
+          let ended =
+          more_ended old new c.in-Some.end whole call.loads c.in-Some.ensures.live next.0 next.1 call.ended in
           call.whole (sym ended ∙ hit) start.rest start.behind;
       reads = rw (more_ended old new c.in-Some.end whole call.loads c.in-Some.ensures.live next.0 next.1 call.ended)
           (reads_more _ _ _ _ _ (rw c.in-Some.ensures.live at c.loop-end.invariant.reads) call.reads);
@@ -64,7 +65,8 @@ returns-in_err-header-clause-no_header g c =
 pub returns-in_err-header-clause-memory : goal.returns-in_err-header-clause-memory
 returns-in_err-header-clause-memory g c image knows begins stops =
     let loaded = c.loop-end.invariant in
-    let fault : c.in_err-header.field-0.0 ≡ Memory = (let given = given_error _ _ c.from_residual-in_err-header.ensures.1 in cc) in
+    let fault : c.in_err-header.field-0.0 ≡ Memory =
+    (let given = given_error _ _ c.from_residual-in_err-header.ensures.1 in cc) in
     let none = rw (c.as_slice.ensures.value, fault) at c.in_err-header.ensures.none in
     absurd (no_tree c.loop-end.area loaded.within loaded.short (c.missing_end.ensures.none c.in_default.is) image _
     (loaded.start image knows) (λ ended. loaded.emptied ended image knows) none begins)

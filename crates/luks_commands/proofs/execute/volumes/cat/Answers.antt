@@ -136,7 +136,8 @@ returns-then-has_ended-clause-calls g c =
     let unread = never_failed (is_run_read_failure (result_message c.write_plain-then-has_ended.result))
     c.write_plain-then-has_ended.ensures.reads.1.failures in
     rw c.in-Attached.is (calls_without_payload Attached _ (result_message c.write_plain-then-has_ended.result)
-    (none_allowed Attached (pbkdf2_alone c.args.args.now.slots) _ _ _) (rw unread counts) c.write_plain-then-has_ended.ensures.writes)
+    (none_allowed Attached (pbkdf2_alone c.args.args.now.slots) _ _ _) (rw unread counts)
+    c.write_plain-then-has_ended.ensures.writes)
 
 pub returns-then-has_ended-clause-work : goal.returns-then-has_ended-clause-work
 returns-then-has_ended-clause-work g c known is pass has = inl (c.in_ok-unlocked.ensures.work known is pass has)

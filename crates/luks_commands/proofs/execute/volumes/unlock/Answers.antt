@@ -27,7 +27,8 @@ try_slots-requires-clause-derives g c =
 pub returns-in_err-volume-clause-err : goal.returns-in_err-volume-clause-err
 returns-in_err-volume-clause-err g c =
     rw (given_error _ _ c.from_residual.ensures.1) (λ known is pass has.
-    locked_unfound c.args.location (pbkdf2_alone c.args.slots) known pass _ _ _ (rw c.pbkdf2_alone.ensures at (c.in_err-volume.ensures.err known is)) has)
+    locked_unfound c.args.location (pbkdf2_alone c.args.slots) known pass _ _ _
+    (rw c.pbkdf2_alone.ensures at (c.in_err-volume.ensures.err known is)) has)
 
 pub returns-in_err-volume-clause-work : goal.returns-in_err-volume-clause-work
 returns-in_err-volume-clause-work g c =
@@ -49,7 +50,8 @@ returns-in_err-volume-clause-counts g c =
 pub returns-in_err-passphrase-clause-err : goal.returns-in_err-passphrase-clause-err
 returns-in_err-passphrase-clause-err g c =
     rw (given_error _ _ c.from_residual-in_err-passphrase.ensures.1) (λ known is pass has.
-    locked_unread c.args.location (pbkdf2_alone c.args.slots) known pass _ _ _ _ (rw c.pbkdf2_alone.ensures at (c.in_ok-volume.ensures.found.found known is)) refl _
+    locked_unread c.args.location (pbkdf2_alone c.args.slots) known pass _ _ _ _
+    (rw c.pbkdf2_alone.ensures at (c.in_ok-volume.ensures.found.found known is)) refl _
     (c.in_err-passphrase.ensures.err pass has))
 
 pub returns-in_err-passphrase-clause-work : goal.returns-in_err-passphrase-clause-work
@@ -64,7 +66,8 @@ returns-in_err-passphrase-clause-work g c =
 
 pub returns-in_err-passphrase-clause-unneeded : goal.returns-in_err-passphrase-clause-unneeded
 returns-in_err-passphrase-clause-unneeded g c known is none =
-    absurd (there_is_volume c.args.location _ _ _ _ _ _ known (rw c.pbkdf2_alone.ensures at c.in_ok-volume.ensures.found) is none)
+    absurd (there_is_volume c.args.location _ _ _ _ _ _ known
+    (rw c.pbkdf2_alone.ensures at c.in_ok-volume.ensures.found) is none)
 
 pub returns-in_err-passphrase-clause-counts : goal.returns-in_err-passphrase-clause-counts
 returns-in_err-passphrase-clause-counts g c =
@@ -91,7 +94,8 @@ returns-in_err-opened-clause-err g c =
 
 pub returns-in_err-opened-clause-unneeded : goal.returns-in_err-opened-clause-unneeded
 returns-in_err-opened-clause-unneeded g c known is none =
-    absurd (there_is_volume c.args.location _ _ _ _ _ _ known (rw c.pbkdf2_alone.ensures at c.in_ok-volume.ensures.found) is none)
+    absurd (there_is_volume c.args.location _ _ _ _ _ _ known
+    (rw c.pbkdf2_alone.ensures at c.in_ok-volume.ensures.found) is none)
 
 pub returns-in_err-opened-clause-counts : goal.returns-in_err-opened-clause-counts
 returns-in_err-opened-clause-counts g c =
@@ -112,7 +116,8 @@ returns-in_err-opened-clause-work g c =
     let pbkdf2 = All-IsPbkdf2 c.in_ok-volume.volume.header (pbkdf2_alone c.args.slots).named
     (pbkdf2_alone c.args.slots).limits c.in_ok-volume.volume.order slots.order c.in_ok-volume.volume.segment
     slots.segment refl in
-    counts_unopened c.args.location (pbkdf2_alone c.args.slots) known pass _ (Some pass) _ _ found _ (Err c.in_err-opened.field-0.0)
+    counts_unopened c.args.location (pbkdf2_alone c.args.slots) known pass _ (Some pass) _ _ found _
+    (Err c.in_err-opened.field-0.0)
     (subst (λ p. TriesSlots (described c.in_ok-volume.volume) c.try_slots.new.volume.area.bytes p
     (Err c.in_err-opened.field-0.0)) (c.deref.ensures.value ∙ whole.0) c.in_err-opened.ensures.tries)
     c.in_err-opened.ensures.run _ refl
@@ -138,13 +143,15 @@ returns-clause-ok g c known is pass has =
 
 pub returns-clause-unneeded : goal.returns-clause-unneeded
 returns-clause-unneeded g c known is none =
-    absurd (there_is_volume c.args.location _ _ _ _ _ _ known (rw c.pbkdf2_alone.ensures at c.in_ok-volume.ensures.found) is none)
+    absurd (there_is_volume c.args.location _ _ _ _ _ _ known
+    (rw c.pbkdf2_alone.ensures at c.in_ok-volume.ensures.found) is none)
 
 pub returns-clause-work : goal.returns-clause-work
 returns-clause-work g c known is pass has =
     let whole = c.in_ok-passphrase.ensures.ok pass has in
     let found = rw c.pbkdf2_alone.ensures at (c.in_ok-volume.ensures.found.found known is) in
-    counts_opened c.args.location (pbkdf2_alone c.args.slots) known pass _ (Some pass) _ _ found _ (Ok c.in_ok-opened.opened)
+    counts_opened c.args.location (pbkdf2_alone c.args.slots) known pass _ (Some pass) _ _ found _
+    (Ok c.in_ok-opened.opened)
     (rw (c.deref.ensures.value, whole.0) at c.in_ok-opened.ensures.tries)
     c.in_ok-opened.ensures.run _ refl
     (rw (c.deref.ensures.value, whole.0) at c.in_ok-opened.ensures.work) c.in_ok-passphrase.ensures.reads.ends _ refl
