@@ -23,7 +23,7 @@ import support  # noqa: E402
 import volumes  # noqa: E402
 from kinds import kinds  # noqa: E402, F401
 from rescuing import bad_sectors, disk1, disk2, luks_cat, rescue  # noqa: E402, F401
-from support import MARK, TOP, Program, built, wait_until  # noqa: E402
+from support import MARK, TOP, Audit, Program, built, wait_until  # noqa: E402
 
 # The options of the make that calls pytest are not for those that tests call.
 for variable in "MAKEFLAGS", "MFLAGS", "MAKELEVEL":
@@ -107,7 +107,7 @@ def each_luksrd(request, processor, tmp_path):
 
 @pytest.fixture
 def audit(request, tmp_path):
-    return Program(built(request.config, "audit"), tmp_path)
+    return Audit(built(request.config, "audit"), tmp_path)
 
 
 @pytest.fixture

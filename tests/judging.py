@@ -1,10 +1,15 @@
 """What docs/AUDIT.md says of weaknesses and of the two lists of findings, read anew: from the object of a header, and
-for LUKS1 from the cipher's two fields."""
+for LUKS1 from the cipher's two fields, for LUKS2 from the tree of the JSON area."""
 import re
+
+from reading import decimal, get, text, whole
 
 OWASP = {"sha512": 210000, "sha384": 210000, "sha256": 600000, "sha224": 600000}
 RANDOM = {"systemd-tpm2", "systemd-fido2", "systemd-pkcs11", "systemd-recovery", "clevis"}
-UNSUPPORTED = re.compile(r"segment: (requirement|type|integrity|encryption|hash)|slot \d+: (type|kdf|hash|encryption)")
+NAMES_OF_INTEGRITY = "type", "journal_encryption", "journal_integrity"
+# the lines of luksCheck that are about names: these are texts, or luksCheck finds a member
+OF_NAMES = re.compile(r"segment: (type|encryption|hash)|slot \d+: (kdf|hash|encryption)")
+HMACS = {"sha1": 20, "sha256": 32, "sha512": 64}
 
 
 def has_word(cipher, word):
@@ -13,10 +18,10 @@ def has_word(cipher, word):
 
 
 def mode_of(cipher, name, mode):
-    """null, ecb, cbc, xts or other."""
+    """null, ecb, cbc, xts, lrw or other."""
     if name in ("cipher_null", "null") or has_word(cipher, "cipher_null"):
         return "null"
-    return next((word for word in ("ecb", "cbc", "xts") if mode.startswith(word) or has_word(cipher, word)), "other")
+    return next((word for word in ("ecb", "cbc", "xts", "lrw") if mode.startswith(word) or has_word(cipher, word)), "other")
 
 
 def mode_in(cipher, fields):
@@ -38,7 +43,7 @@ def of_cipher(place, mode, cipher, length):
     if mode in ("null", "ecb", "cbc"):
         name = "null-cipher" if mode == "null" else mode
         yield name, place, cipher, None, "low" if mode == "cbc" else "high"
-    own = None if length is None else length // 2 if mode == "xts" else length
+    own = None if length is None else length // 2 if mode == "xts" else max(length - 16, 0) if mode == "lrw" else length
     if mode != "null" and (own or 0) < 32:
         yield "short-key", place, own, 32, "low"
 
@@ -72,30 +77,73 @@ def of_digest(digest):
         yield "digest-iterations", place, digest["iterations"], 1000, "low"
 
 
-def all_weak(found, fields, held, minimum):
-    mode = mode_in(found["cipher"], fields)
-    for weakness in of_cipher("segment", mode, found["cipher"], found["key_bytes"]):
-        if weakness[0] != "short-key" or found["key_bytes"] is not None:
+def of_tags(pattern, name):
+    """The length of the key for integrity tags that are HMACs, by a name that begins so."""
+    found = re.match(pattern, name or "")
+    return HMACS[found[1]] if found else 0
+
+
+def cipher_length(found):
+    """The length of the volume key without the key for integrity tags, if it is known and there is a cipher."""
+    if found["cipher"] is None or found["key_bytes"] is None:
+        return None
+    hmac = rf"hmac\(({'|'.join(HMACS)})\)"
+    tags = of_tags(f"{hmac}$", found["integrity"]) + of_tags(rf"capi:authenc\({hmac},", found["cipher"])
+    return max(found["key_bytes"] - tags, 0)
+
+
+def of_segments(found, fields, tree):
+    segments = get(tree, "segments")
+    if isinstance(segments, dict) and any(text(segment, "type") == "linear" for segment in segments.values()):
+        yield "null-cipher", "segment", "linear", None, "high"
+    length = cipher_length(found)
+    for weakness in of_cipher("segment", mode_in(found["cipher"], fields), found["cipher"], length):
+        if weakness[0] != "short-key" or length is not None:
             yield weakness
+
+
+def all_weak(found, fields, tree, minimum):
+    yield from of_segments(found, fields, tree)
     for slot in found["slots"]:
-        if held(slot):
+        is_held = slot["state"] != "disabled" if fields else \
+            text(tree, "keyslots", str(slot["number"]), "type") == "luks2"
+        if is_held:
             yield from of_slot(slot, found["tokens"], fields, minimum)
     for digest in found["digests"]:
         yield from of_digest(digest)
 
 
-def weaknesses(found, header, kinds=None, minimum=None):
-    """What `weak` has to be in this object of the header with these bytes. KINDS are the types of key slots of LUKS2 by
-    their numbers."""
+def weaknesses(found, header, tree=None, minimum=None):
+    """What `weak` has to be in this object of the header with these bytes."""
     fields = None
     if found["version"] == 1:
         fields = tuple(header[at:at + 32].partition(b"\0")[0].decode("latin-1") for at in (8, 40))
-    held = lambda slot: slot["state"] != "disabled" if fields else (kinds or {}).get(slot["number"], "luks2") == "luks2"
     keys = ("name", "place", "value", "limit", "severity")
-    return [dict(zip(keys, weakness)) for weakness in all_weak(found, fields, held, minimum)]
+    return [dict(zip(keys, weakness)) for weakness in all_weak(found, fields, tree, minimum)]
 
 
-def in_two_lists(lines):
+def is_segment(segment):
+    """Whether segment 0 is well-formed."""
+    kind, size = text(segment, "type"), text(segment, "size")
+    of_crypt = [decimal(segment, "offset"), decimal(segment, "iv_tweak"), whole(segment, "sector_size"),
+                text(segment, "encryption"), size if size == "dynamic" else decimal(segment, "size")]
+    return kind is not None and (kind != "crypt" or None not in of_crypt)
+
+
+def is_unsupported(line, tree):
+    """Whether a line of luksCheck is about what is well-formed, and not supported."""
+    segment = get(tree, "segments", "0")
+    if line == "segment: requirement":
+        names = get(tree, "config", "requirements", "mandatory")
+        return isinstance(names, list) and all(isinstance(name, str) for name in names) and is_segment(segment)
+    if line == "segment: integrity":
+        return all(text(segment, "integrity", name) is not None for name in NAMES_OF_INTEGRITY)
+    if slot := re.fullmatch(r"slot (\d+): type", line):
+        return text(tree, "keyslots", slot[1], "type") is not None
+    return OF_NAMES.fullmatch(line) is not None
+
+
+def in_two_lists(lines, tree):
     """The lines of luksCheck: what is wrong, and what is not supported."""
-    unsupported = [line for line in lines if UNSUPPORTED.fullmatch(line)]
+    unsupported = [line for line in lines if is_unsupported(line, tree)]
     return [line for line in lines if line not in unsupported], unsupported

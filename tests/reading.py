@@ -81,6 +81,14 @@ def numbered(tree, name):
     return [(n, owner[str(n)]) for n in range(32) if str(n) in owner] if isinstance(owner, dict) else []
 
 
+def tree_in(image, found):
+    """The JSON text of the header that is listed, if it has one."""
+    if found["version"] == 1:
+        return None
+    start = (found["header_size"] if found["header"] == "secondary" else 0) + 4096
+    return tree_of(image[start:start + found["header_size"] - 4096])
+
+
 def object1(image):
     _, _, name, mode, hash_, payload, key_bytes, digest, salt, iterations, uuid = HEADER1.unpack(image[:208])
     cipher, hash_ = f"{shown(name)}-{shown(mode)}", shown(hash_)

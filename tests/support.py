@@ -2,6 +2,7 @@
 import contextlib
 import functools
 import hashlib
+import json
 import os
 import pathlib
 import shutil
@@ -108,6 +109,31 @@ class Program:
 
     def __call__(self, line, *arguments, **how):
         return run(*self.command(line, *arguments), **{"cwd": self.folder, **how})
+
+
+@functools.cache
+def schema_of_lines():
+    """The JSON Schema of the lines of luksrd-audit."""
+    import jsonschema
+
+    return jsonschema.Draft202012Validator(json.loads((TOP / "docs/luksrd-audit.schema.json").read_text()))
+
+
+def audit_lines(output):
+    """The objects in the output of luksrd-audit: the schema has all that they are."""
+    found = [json.loads(line) for line in output.splitlines()]
+    for each in found:
+        schema_of_lines().validate(each)
+    return found
+
+
+class Audit(Program):
+    """luksrd-audit: each JSON line of its output is one of the schema."""
+
+    def __call__(self, line, *arguments, **how):
+        ended = super().__call__(line, *arguments, **how)
+        audit_lines(b"".join(text for text in ended.output.splitlines(True) if text.startswith(b"{")))
+        return ended
 
 
 def built(config, name, *parts):

@@ -12,19 +12,18 @@ import struct
 import subprocess
 
 import documents
-import jsonschema
 import pytest
 from documents import SHELLS, Cook, commands_in, document, example
 from judging import in_two_lists, weaknesses
 from kinds import each_kind
 from payloads import OF_LUKS2, format2, make_several
+from reading import tree_in
 from reported import dump_of, reported
-from support import FULL, TOP, must, needs, run
-from volumes import copy_of, cryptsetup, edit_metadata, edit_segment, overwrite, passphrases, with_checksum
+from support import FULL, TOP, audit_lines, must, needs, run, schema_of_lines
+from volumes import copy_of, cryptsetup, edit_metadata, edit_segment, metadata, overwrite, passphrases, with_checksum
 
 PAGE = TOP / "docs/luksrd-audit.1"
 GUIDE = TOP / "docs/AUDIT.md"
-SCHEMA = jsonschema.Draft202012Validator(json.loads((TOP / "docs/luksrd-audit.schema.json").read_text()))
 HASHES = ["sha1", "sha224", "sha256", "sha384", "sha512", "ripemd160"]
 JUDGED = ("file", "findings", "unsupported", "weak", "program_version", "policy")
 JUDGED_OF_SLOT = ("state", "reason", "can_try", "library_can_try")
@@ -59,10 +58,8 @@ def listed(audit, line, *arguments, status=1, **how):
     they are weak."""
     ended = audit(line, *arguments, **how)
     assert (ended.status, ended.message) == (status, "")
-    found = [json.loads(text) for text in ended.output.splitlines()]
-    for each in found:
-        SCHEMA.validate(each)
-        assert (each["program_version"], each["policy"]) == (VERSION, 1)
+    found = audit_lines(ended.output)
+    assert all((each["program_version"], each["policy"]) == (VERSION, 1) for each in found)
     return found
 
 
@@ -75,7 +72,7 @@ def test_schema(audit, here, part):
     def is_refused(change):
         changed = copy.deepcopy(found)
         change(changed[part][0] if part in changed and part != "error" else changed)
-        return not SCHEMA.is_valid(changed)
+        return not schema_of_lines().is_valid(changed)
 
     names = list(found[part][0] if part in found and part != "error" else found)
     assert names
@@ -116,22 +113,14 @@ def check_listed(audit, luksrd, file, image=None, role="primary", other=None):
 def check_judged(luksrd, found, file, minimum=None):
     """What is judged is as AUDIT.md says."""
     check = [line for line in luksrd("luksCheck", file).output.decode().splitlines() if line != "clean"]
-    assert (found["findings"], found["unsupported"]) == in_two_lists(check)
-    kinds = None if found["version"] == 1 else kinds_of(file, found)
-    with open(file, "rb") as header:
-        assert found["weak"] == weaknesses(found, header.read(592), kinds, minimum)
+    with open(file, "rb") as image:
+        headers = image.read(8 << 20)
+    tree = tree_in(headers, found)
+    assert (found["findings"], found["unsupported"]) == in_two_lists(check, tree)
+    assert found["weak"] == weaknesses(found, headers, tree, minimum)
     for slot in found["slots"]:
         derives = slot["kdf"] in ("argon2i", "argon2id") and slot["reason"] == slot["kdf"]
         assert slot["library_can_try"] in ([True, False] if derives else [slot["can_try"]])
-
-
-def kinds_of(file, found):
-    """The types of the key slots of LUKS2 by their numbers."""
-    with open(file, "rb") as image:
-        image.seek((found["header_size"] if found["header"] == "secondary" else 0) + 4096)
-        area = image.read(found["header_size"] - 4096)
-    slots = json.loads(area.partition(b"\0")[0].decode())["keyslots"]
-    return {int(name): isinstance(slot, dict) and slot.get("type") for name, slot in slots.items() if name.isdecimal()}
 
 
 @pytest.mark.parametrize("mode, hash_, bits, names", [
@@ -262,6 +251,110 @@ def test_what_is_not_supported(audit, luksrd, image):
     check_judged(luksrd, found, image)
 
 
+TAGS = {"type": "hmac(sha256)", "journal_encryption": "none", "journal_integrity": "none"}
+REENCRYPT = {"mandatory": ["online-reencrypt"]}
+
+
+def changed(name, **members):
+    """Replaces these members of segment 0, or of the object of this name, `keyslots` or `config`."""
+    def change(tree):
+        (tree[name]["0"] if name == "segments" else tree[name]).update(members)
+    return change
+
+
+@pytest.mark.parametrize("change, line", [
+    (changed("keyslots", **{"0": 5}), "slot 0: type"),
+    (changed("keyslots", **{"0": {}}), "slot 0: type"),
+    (changed("keyslots", **{"0": {"type": ["luks2"]}}), "slot 0: type"),
+    (changed("config", requirements=5), "segment: requirement"),
+    (changed("config", requirements=["online-reencrypt"]), "segment: requirement"),
+    (changed("config", requirements={"mandatory": "online-reencrypt"}), "segment: requirement"),
+    (changed("config", requirements={"mandatory": ["online-reencrypt", 7]}), "segment: requirement"),
+    (changed("segments", integrity=3), "segment: integrity"),
+    (changed("segments", integrity=None), "segment: integrity"),
+    (changed("segments", integrity={**TAGS, "journal_integrity": 3}), "segment: integrity"),
+    (changed("segments", integrity={"type": "aead"}), "segment: integrity"),
+    (changed("segments", type=None), "segment: member"),
+    # with requirements, luksCheck says nothing of the segment
+    (lambda tree: (changed("config", requirements=REENCRYPT)(tree), changed("segments", type=5)(tree)),
+     "segment: requirement"),
+    (lambda tree: (changed("config", requirements=REENCRYPT)(tree), changed("segments", sector_size="512")(tree)),
+     "segment: requirement"),
+    (lambda tree: tree.update(config={"requirements": REENCRYPT}, segments={}), "segment: requirement"),
+])
+def test_damaged_members(audit, luksrd, image, change, line):
+    """What is missing or of a wrong type is a finding, and makes the status 1."""
+    format2(image, "--sector-size 512 --cipher aes-xts-plain64 --key-size 512")
+    edit_metadata(image, lambda tree: (change_slot({"iterations": 600000})(tree), change(tree)))
+    [found] = listed(audit, "--fail-on high image", status=1)
+    assert (found["findings"], found["unsupported"]) == ([line], [])
+    check_judged(luksrd, found, image)
+
+
+@pytest.mark.parametrize("change, line", [
+    (changed("keyslots", **{"0": {"type": "reencrypt"}}), "slot 0: type"),
+    (changed("config", requirements=REENCRYPT), "segment: requirement"),
+    (changed("segments", integrity={**TAGS, "type": "aead"}), "segment: integrity"),
+    (changed("segments", type="mine"), "segment: type"),
+    (change_slot({"type": "scrypt"}), "slot 0: kdf"),
+    (change_slot({"hash": "whirlpool", "iterations": 1300000}), "slot 0: hash"),
+])
+def test_well_formed_members(audit, luksrd, image, change, line):
+    """What luksrd does not support, and only that, leaves the status at 0."""
+    format2(image, "--sector-size 512 --cipher aes-xts-plain64 --key-size 512")
+    edit_metadata(image, lambda tree: (change_slot({"iterations": 600000})(tree), change(tree)))
+    [found] = listed(audit, "image", status=0)
+    assert (found["findings"], found["unsupported"]) == ([], [line])
+    check_judged(luksrd, found, image)
+
+
+LINEAR = {"type": "linear", "offset": "32768", "size": "dynamic"}
+NOT_ENCRYPTED = weak_of("null-cipher", "segment", "linear", None, "high")
+
+
+def test_plaintext(audit, luksrd, image):
+    """A segment of type linear is not encrypted, in a volume that was decrypted or is being encrypted."""
+    format2(image, "--sector-size 512 --cipher aes-xts-plain64 --key-size 512")
+    edit_metadata(image, change_slot({"iterations": 600000}))
+    whole = copy_of(image, image.parent / "whole")
+    for segments in {"0": LINEAR}, {"0": LINEAR, "1": metadata(whole)[0]["segments"]["0"]}, {
+            "0": metadata(whole)[0]["segments"]["0"], "40": LINEAR}:
+        edit_metadata(copy_of(whole, image), lambda tree: tree.update(segments=segments))
+        [found] = listed(audit, "--fail-on high image")
+        assert found["weak"] == [NOT_ENCRYPTED]
+        check_judged(luksrd, found, image)
+
+
+@pytest.mark.parametrize("cipher, tags, length, own", [
+    ("aes-xts-plain64", "hmac(sha256)", 64, 16), ("aes-xts-plain64", "hmac(sha256)", 96, None),
+    ("aes-xts-plain64", "hmac(sha512)", 96, 16), ("aes-xts-plain64", "hmac(sha512)", 128, None),
+    ("aes-cbc-essiv:sha256", "hmac(sha1)", 51, 31), ("aes-cbc-essiv:sha256", "hmac(sha1)", 52, None),
+    ("aes-xts-plain64", "aead", 63, 31), ("chacha20-random", "poly1305", 32, None),
+    ("capi:authenc(hmac(sha256),xts(aes))-random", "aead", 95, 31),
+    ("capi:authenc(hmac(sha256),xts(aes))-random", "aead", 96, None),
+    ("aes-xts-plain64", "hmac(sha256)", 20, 0),
+    ("aes-lrw-benbi", None, 32, 16), ("aes-lrw-benbi", None, 48, None), ("capi:lrw(aes)-benbi", None, 47, 31),
+    (None, None, 16, None),
+])
+def test_own_key_of_the_cipher(audit, luksrd, image, cipher, tags, length, own):
+    """It is judged without the key for integrity tags, and without that of LRW for tweaks."""
+    format2(image, "--sector-size 512 --cipher aes-xts-plain64 --key-size 512")
+    edit_metadata(image, lambda tree: tree["keyslots"]["0"].update(key_size=length))
+    edit_segment(image, encryption=cipher, **({"integrity": {**TAGS, "type": tags}} if tags else {}))
+    [found] = listed(audit, "image")
+    short = [each for each in found["weak"] if (each["name"], each["place"]) == ("short-key", "segment")]
+    assert short == ([] if own is None else [weak_of("short-key", "segment", own, 32, "low")])
+    check_judged(luksrd, found, image)
+
+
+def test_key_material_by_lrw(audit, luksrd, image):
+    format2(image, "--sector-size 512 --cipher aes-xts-plain64 --key-size 512")
+    edit_metadata(image, change_slot({"iterations": 600000}, {"encryption": "aes-lrw-benbi", "key_size": 47}))
+    [found] = listed(audit, "image")
+    assert found["weak"] == [weak_of("short-key", "slot 0", 31, 32, "low")]
+    check_judged(luksrd, found, image)
+
+
 def test_members_of_the_segment(audit, luksrd, image):
     format2(image, "--sector-size 512")
     edit_metadata(image, lambda tree: tree["config"].update(flags=["allow-discards", "no-read-workqueue"]))
@@ -269,6 +362,7 @@ def test_members_of_the_segment(audit, luksrd, image):
     [found] = listed(audit, "image")
     assert members([found], "segment_type", "segment_flags", "integrity", "flags") == [
         ["linear", ["backup-final"], "hmac(sha256)", ["allow-discards", "no-read-workqueue"]]]
+    assert found["weak"][0] == NOT_ENCRYPTED
     check_judged(luksrd, found, image)
 
 
@@ -392,7 +486,7 @@ def test_output_that_cannot_be_written(audit, here):
 def test_closed_input(audit, here):
     """It is no image, and the next one follows."""
     ended = run("sh", "-c", 'exec "$0" - sha1 <&-', audit.path, cwd=here)
-    found = [json.loads(line) for line in ended.output.splitlines()]
+    found = audit_lines(ended.output)
     assert (ended.status, ended.message) == (4, "")
     assert members(found, "file", "error", "version") == [["-", "cannot be opened", None], ["sha1", None, 1]]
 
@@ -605,8 +699,7 @@ def test_example(shell, here):
 @needs("jq", "column")
 def test_recipes(shell):
     ended = shell(commands("Recipes", "A fleet"))
-    said = re.sub(r'^\{.*"version":1,.*', "LUKS1", ended.output.decode(), flags=re.M)
-    assert said == f"""\
+    assert ended.output.decode() == f"""\
 images/a.img\t1\t-\t{', '.join(WEAK_SHA1)}
 images/b.img\t2\t-\t{', '.join(WEAK_SEVERAL)}
 image         version  cipher           key  weak  findings
@@ -622,14 +715,13 @@ images/b.img
 [2,31]
 [0,2,true]
 [1048576,1,true]
-LUKS1
 """
 
 
 def test_search_with_limits(shell, here, many):
     many.rename(here / "suspect.img")
     assert shell(commands("What a hostile image costs", "One partition")).status == 1
-    [found] = map(json.loads, (here / "headers").read_text().splitlines())
+    [found] = audit_lines((here / "headers").read_text())
     assert found["offset"] == 32768
 
 
@@ -690,10 +782,8 @@ def machines(shell, here):
 def test_fleet(shell, machines):
     ended = shell(commands("A fleet", "What is proved"))
     images = [f"{machine}:{machines}/images/{name}.img" for machine in ("one", "two") for name in "ab"]
-    lines = [json.loads(line) for line in (machines / "fleet.jsonl").read_text().splitlines()]
+    lines = audit_lines((machines / "fleet.jsonl").read_text())
     assert sorted(line["file"] for line in lines) == images
-    for line in lines:
-        SCHEMA.validate(line)
     rest = ended.output.decode().splitlines()
     assert rest[0] == "three"
     assert sorted(rest[1:5]) == images
@@ -789,7 +879,7 @@ def test_what_readme_shows(cook):
     assert ended.output.decode() == shown, ended
     assert "Whole disks need `--search`." in document("README.md").read_text()
     found = must("luksrd-audit", "--search", "laptop.img", cwd=cook.images, env=cook.environment)
-    assert [(line["offset"], line["version"]) for line in map(json.loads, found.splitlines())] == [(1 << 20, 2)]
+    assert [(line["offset"], line["version"]) for line in audit_lines(found)] == [(1 << 20, 2)]
 
 
 @needs("jq", "zsh")

@@ -104,8 +104,8 @@ with_lists slots digests tokens owner = with_fields (list_fields slots digests t
 
 unfoldable pub audit_value : Option ℕ → List ℕ → ℕ → Header → Data
 audit_value minimum file offset header =
-    with_fields (judged_fields (finding_values (finding_list header)) (unsupported_values (finding_list header))
-    (map weak_value (weak_of minimum header)))
+    with_fields (judged_fields (finding_values header (finding_list header))
+    (unsupported_values header (finding_list header)) (map weak_value (weak_of minimum header)))
     (with_lists (slot_list header) (digest_list header) (token_list header)
     (with_volume header (with_fields (place_fields file offset) (with_fields program_fields empty_object))))
 
@@ -113,7 +113,7 @@ audit_value minimum file offset header =
 -- wrong
 unfoldable pub is_clean : Policy → Header → Bool
 is_clean policy header =
-    (length (finding_values (finding_list header)) == 0)
+    (length (finding_values header (finding_list header)) == 0)
     && not (any_fails policy.fail_on (weak_of policy.minimum header))
 
 abbrev pub audit_of : Policy → List ℕ → ℕ → Header → Audit

@@ -1,10 +1,10 @@
 -- What a cipher's name says of how sectors are encrypted, in the notation of dm-crypt or of the kernel's crypto API.
-use Rattle.std.specs.Prelude.{ℕ, ◌&&◌, ◌||◌, ◌==◌, Bool, true, false, List, [], ◌∷◌, Option, Some, None, bytes_eq}
-use Rattle.std.specs.Prelude.{codes, if◌then◌else◌, length, slice_get, take}
+use Rattle.std.specs.Prelude.{ℕ, ◌+◌, ◌&&◌, ◌||◌, ◌==◌, Bool, true, false, List, [], ◌∷◌, Option, Some, None, bytes_eq}
+use Rattle.std.specs.Prelude.{codes, drop, if◌then◌else◌, length, option_map, position, slice_get, take, unwrap_or}
 use Rattle.luks_audit.specs.declared.rows.CipherMode.{CipherMode}
-use Rattle.luks_audit.specs.declared.rows.CipherMode.TheVariants.{Null, Ecb, Cbc, Xts, Other}
+use Rattle.luks_audit.specs.declared.rows.CipherMode.TheVariants.{Null, Ecb, Cbc, Xts, Lrw, Other}
 
--- a mode of dm-crypt begins with this word
+-- a text, such as a mode of dm-crypt, begins with this word
 unfoldable pub begins_with : List ℕ → List ℕ → Bool
 begins_with word mode = bytes_eq (take (length word) mode) word
 
@@ -46,4 +46,24 @@ mode_of cipher name mode =
     else if uses_mode (codes "ecb") cipher mode then Ecb
     else if uses_mode (codes "cbc") cipher mode then Cbc
     else if uses_mode (codes "xts") cipher mode then Xts
+    else if uses_mode (codes "lrw") cipher mode then Lrw
     else Other
+
+-- ---- a cipher of LUKS2, which has its name and its mode in one text
+
+-- the mode in a cipher's name: what follows the first dash
+unfoldable pub mode_after_dash : List ℕ → List ℕ
+mode_after_dash cipher =
+    unwrap_or (option_map (λ dash. drop (dash + 1) cipher) (position (λ (byte : ℕ). byte == 45) cipher)) []
+
+-- the name in a cipher's name: what precedes the first dash, or all of it
+unfoldable pub name_before_dash : List ℕ → List ℕ
+name_before_dash cipher =
+    unwrap_or (option_map (λ dash. take dash cipher) (position (λ (byte : ℕ). byte == 45) cipher)) cipher
+
+-- how a cipher encrypts sectors, if one is named
+abbrev pub named_mode : List ℕ → CipherMode
+named_mode cipher = mode_of cipher (name_before_dash cipher) (mode_after_dash cipher)
+
+unfoldable pub cipher_mode2 : Option (List ℕ) → CipherMode
+cipher_mode2 cipher = unwrap_or (option_map named_mode cipher) Other

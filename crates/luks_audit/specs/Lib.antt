@@ -2,11 +2,13 @@ pub mod Audit
 pub mod Cipher
 pub mod Finding
 pub mod Image
+pub mod KeyLength
 pub mod Line
 pub mod Marks
 pub mod Numbers
 pub mod Rows1
 pub mod Rows2
+pub mod Shape
 pub mod Table
 pub mod Token
 pub mod Tree

@@ -1,6 +1,6 @@
 -- Which member of a LUKS2 header each field is (LUKS2 On-Disk Format Specification 1.1, sections 2.1 and 3).
-use Rattle.std.specs.Prelude.{ℕ, ◌+◌, ◌==◌, Bool, List, [], Option, Some, None, codes, drop}
-use Rattle.std.specs.Prelude.{if◌then◌else◌, length, option_and_then, option_map, position, take, unwrap_or}
+use Rattle.std.specs.Prelude.{ℕ, ◌||◌, Bool, false, List, Option, Some, None, codes, if◌then◌else◌, length}
+use Rattle.std.specs.Prelude.{option_and_then, option_map, unwrap_or}
 use Rattle.hex.specs.Hex.{encode_lower}
 use Rattle.luks_report.specs.DumpLine.{escaped}
 use Rattle.luks_report.specs.Dump2.{role_text}
@@ -15,11 +15,9 @@ use Rattle.luks2_json.specs.List.{strings_at}
 use Rattle.luks2_json.specs.Member.{base64_member, decimal_member, has, in_member, integer_member, is_type}
 use Rattle.luks2_json.specs.Member.{string_is, string_member}
 use Rattle.luks2_json.specs.Numbered.{lowest, object_numbered}
-use Rattle.luks_audit.specs.Cipher.{mode_of}
+use Rattle.luks_audit.specs.Cipher.{cipher_mode2}
 use Rattle.luks_audit.specs.Verdict.{is_kind_usable, kind_text, reason_in}
 use Rattle.luks_audit.specs.Tree.{unless_float}
-use Rattle.luks_audit.specs.declared.rows.CipherMode.{CipherMode}
-use Rattle.luks_audit.specs.declared.rows.CipherMode.TheVariants.{Other}
 use Rattle.luks_audit.specs.declared.rows.DigestRow.{DigestRow}
 use Rattle.luks_audit.specs.declared.rows.HeaderRow.{HeaderRow}
 use Rattle.luks_audit.specs.declared.rows.Length.{Length}
@@ -27,8 +25,8 @@ use Rattle.luks_audit.specs.declared.rows.Length.TheVariants.{Dynamic, Fixed}
 use Rattle.luks_audit.specs.declared.rows.PayloadRow.{PayloadRow}
 use Rattle.luks_audit.specs.declared.rows.SlotRow.{SlotRow}
 use Rattle.luks_audit.specs.declared.rows.TokenRow.{TokenRow}
-use Rattle.serde_json.specs.Data.{Data}
-use Rattle.serde_json.specs.Find.{get}
+use Rattle.serde_json.specs.Data.{Data, Members, no_members, member}
+use Rattle.serde_json.specs.Find.{as_object, get}
 
 -- what is wrong with the header that is not the listed one
 abbrev pub other_header_of : Option PairFinding → Option (List ℕ)
@@ -85,22 +83,13 @@ segment_flags_of tree = option_map (strings_at (codes "flags")) (object_numbered
 abbrev pub flags_of : Data → Option (List (List ℕ))
 flags_of tree = option_map (strings_at (codes "flags")) (get (codes "config") tree)
 
--- the mode in a cipher's name: what follows the first dash
-unfoldable pub mode_after_dash : List ℕ → List ℕ
-mode_after_dash cipher =
-    unwrap_or (option_map (λ dash. drop (dash + 1) cipher) (position (λ (byte : ℕ). byte == 45) cipher)) []
+-- one of the segments has the type `linear`: its data is not encrypted
+abbrev pub any_linear : Members → Bool
+any_linear no_members = false
+any_linear (member name segment rest) = is_type (codes "linear") segment || any_linear rest
 
--- the name in a cipher's name: what precedes the first dash, or all of it
-unfoldable pub name_before_dash : List ℕ → List ℕ
-name_before_dash cipher =
-    unwrap_or (option_map (λ dash. take dash cipher) (position (λ (byte : ℕ). byte == 45) cipher)) cipher
-
--- how a cipher encrypts sectors, if one is named
-abbrev pub named_mode : List ℕ → CipherMode
-named_mode cipher = mode_of cipher (name_before_dash cipher) (mode_after_dash cipher)
-
-unfoldable pub cipher_mode2 : Option (List ℕ) → CipherMode
-cipher_mode2 cipher = unwrap_or (option_map named_mode cipher) Other
+unfoldable pub has_linear : Data → Bool
+has_linear tree = unwrap_or (option_map any_linear (in_member (codes "segments") as_object tree)) false
 
 unfoldable pub payload2_row : Data → PayloadRow
 payload2_row tree = record {
@@ -115,6 +104,7 @@ payload2_row tree = record {
   integrity = in_segment0 (in_member (codes "integrity") (string_member (codes "type"))) tree;
   flags = flags_of tree;
   requirements = requirements_of tree;
+  has_linear = has_linear tree;
   mode = cipher_mode2 (in_segment0 (string_member (codes "encryption")) tree);
 }
 

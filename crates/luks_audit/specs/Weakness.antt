@@ -1,13 +1,14 @@
 -- What is weak, judged by fields that headers of both formats have. A number that a header lacks counts as 0.
-use Rattle.std.specs.Prelude.{ℕ, ◌/◌, ◌&&◌, ◌||◌, ◌++◌, Bool, true, false, List, [], ◌∷◌, Option, Some, None, codes, decimal}
+use Rattle.std.specs.Prelude.{ℕ, ◌&&◌, ◌||◌, ◌++◌, Bool, true, false, List, [], ◌∷◌, Option, Some, None, codes, decimal}
 use Rattle.std.specs.Prelude.{flat_map, if◌then◌else◌, map, nat_le, nat_lt, option_and_then, option_map, unwrap_or}
 use Rattle.luks_kdf.specs.Hash.{hash_named}
 use Rattle.luks_kdf.specs.declared.hash.Hash.{Hash}
 use Rattle.luks_kdf.specs.declared.hash.Hash.TheVariants.{Sha1, Sha224, Sha256, Sha384, Sha512}
+use Rattle.luks_audit.specs.KeyLength.{cipher_key_len, is_known_short, is_short, least_key_len, own_key_len}
 use Rattle.luks_audit.specs.Token.{has_random_key, is_named}
 use Rattle.luks_audit.specs.Tree.{empty_object, optional_num, with_fields}
 use Rattle.luks_audit.specs.declared.rows.CipherMode.{CipherMode}
-use Rattle.luks_audit.specs.declared.rows.CipherMode.TheVariants.{Null, Ecb, Cbc, Xts, Other}
+use Rattle.luks_audit.specs.declared.rows.CipherMode.TheVariants.{Null, Ecb, Cbc}
 use Rattle.luks_audit.specs.declared.rows.DigestRow.{DigestRow}
 use Rattle.luks_audit.specs.declared.rows.PayloadRow.{PayloadRow}
 use Rattle.luks_audit.specs.declared.rows.SlotRow.{SlotRow}
@@ -40,10 +41,6 @@ owasp_iterations None = 1300000
 abbrev pub least_iterations : Option ℕ → Option Hash → ℕ
 least_iterations (Some minimum) hash = minimum
 least_iterations None hash = owasp_iterations hash
-
--- the least length in bytes of a cipher's key: 256 bits (CNSA 2.0: AES-256)
-abbrev pub least_key_len : ℕ
-least_key_len = 32
 
 -- the least memory of Argon2 in KiB: 64 MiB (RFC 9106, section 4, the second recommended option)
 abbrev pub least_memory : ℕ
@@ -90,21 +87,6 @@ has_little_memory slot = uses_argon2 slot && nat_lt (unwrap_or slot.memory 0) le
 abbrev pub has_few_passes : SlotRow → Bool
 has_few_passes slot =
     uses_argon2 slot && nat_lt (unwrap_or slot.time 0) (least_passes (unwrap_or slot.memory 0))
-
--- the length in bytes of the cipher's own key, of a key of this length: XTS has two of equal length
-abbrev pub own_key_len : CipherMode → ℕ → ℕ
-own_key_len Xts bytes = bytes / 2
-own_key_len _ bytes = bytes
-
--- the cipher's own key is short. What is not encrypted has no key
-abbrev pub is_short : CipherMode → ℕ → Bool
-is_short Null bytes = false
-is_short mode bytes = nat_lt (own_key_len mode bytes) least_key_len
-
--- the volume key is short, if its length is known
-abbrev pub is_known_short : CipherMode → Option ℕ → Bool
-is_known_short mode None = false
-is_known_short mode (Some bytes) = is_short mode bytes
 
 -- ---- weaknesses
 
@@ -184,11 +166,16 @@ digest_weaknesses digest =
     ++ found_if (nat_lt (unwrap_or digest.iterations 0) least_digest_iterations)
     (by_limit FewDigestIterations (Digest digest.number) Low digest.iterations least_digest_iterations)
 
--- of the segment
+-- the length of the part of the volume key that is the cipher's
+abbrev pub segment_key_len : PayloadRow → Option ℕ
+segment_key_len row = cipher_key_len row.cipher row.integrity row.key_bytes
+
+-- of the segment, and that a segment of type `linear` is not encrypted
 unfoldable pub segment_weaknesses : PayloadRow → List WeakRow
 segment_weaknesses row =
-    cipher_weaknesses Segment row.mode row.cipher
-    ++ found_if (is_known_short row.mode row.key_bytes) (key_weakness Segment row.mode row.key_bytes)
+    found_if row.has_linear (by_name NullCipher Segment High (Some (codes "linear")))
+    ++ cipher_weaknesses Segment row.mode row.cipher
+    ++ found_if (is_known_short row.mode (segment_key_len row)) (key_weakness Segment row.mode (segment_key_len row))
 
 -- everything that is weak, with this minimum of iterations, or OWASP's
 unfoldable pub weak_list : Option ℕ → PayloadRow → List SlotRow → List DigestRow → List TokenRow → List WeakRow

@@ -228,7 +228,7 @@ pub fn audit_header(
         digests.as_slice(),
         tokens.as_slice(),
     )?;
-    let findings = finding_array(alloc, found.as_slice())?;
+    let findings = finding_array(alloc, header, found.as_slice())?;
     let is_clean = findings.len() == 0 && !any_fails(policy.fail_on, weak.as_slice());
     let mut fields = Object::new(alloc);
     push_program(alloc, &mut fields)?;
@@ -244,7 +244,7 @@ pub fn audit_header(
         digests.as_slice(),
         tokens.as_slice(),
     )?;
-    let unsupported = unsupported_array(alloc, found.as_slice())?;
+    let unsupported = unsupported_array(alloc, header, found.as_slice())?;
     let weak = weak_array(alloc, weak.as_slice())?;
     push_judged(alloc, &mut fields, findings, unsupported, weak)?;
     let tree = fields.into_tree();

@@ -1,14 +1,15 @@
 //! How a cipher encrypts sectors, by its name.
 
-ghost use Rattle.std.specs.Prelude.{◌≡◌, option_map};
-ghost use Rattle.luks_audit.specs.Cipher.{begins_with, ends_word, has_first_word, has_template};
-ghost use Rattle.luks_audit.specs.Cipher.{has_word, is_mark, is_null, mode_of, uses_mode};
+ghost use Rattle.std.specs.Prelude.{◌≡◌, ◌<◌, ◌==◌, IfSome, length, option_map, position, ℕ};
+ghost use Rattle.luks_audit.specs.Cipher.{begins_with, cipher_mode2, ends_word, has_first_word};
+ghost use Rattle.luks_audit.specs.Cipher.{has_template, has_word, is_mark, is_null, mode_after_dash};
+ghost use Rattle.luks_audit.specs.Cipher.{mode_of, name_before_dash, named_mode, uses_mode};
 
 use crate::rows::CipherMode;
 
-// Whether a mode of dm-crypt begins with this word.
+/// Whether a text begins with this word.
 #[tactic(auto, unfolding(crate::specs::Cipher::begins_with))]
-fn begins_with(word: &[u8], mode: &[u8]) -> bool
+pub(crate) fn begins_with(word: &[u8], mode: &[u8]) -> bool
     ensures { result ≡ begins_with word.now mode.now }
 {
     mode.starts_with(word)
@@ -92,7 +93,57 @@ pub(crate) fn mode_of(cipher: &[u8], name: &[u8], mode: &[u8]) -> CipherMode
         CipherMode::Cbc
     } else if uses_mode(b"xts", cipher, mode) {
         CipherMode::Xts
+    } else if uses_mode(b"lrw", cipher, mode) {
+        CipherMode::Lrw
     } else {
         CipherMode::Other
+    }
+}
+
+// ---- a cipher of LUKS2
+
+// The index of the first dash.
+fn dash_in(cipher: &[u8]) -> Option<usize>
+    ensures value { result ≡ position (λ (byte : ℕ). byte == 45) cipher.now }
+    ensures bound { IfSome result (λ dash. dash < length cipher.now) }
+{
+    cipher.iter().position(|byte| *byte == b'-')
+}
+
+// The mode in a cipher's name: what follows the first dash.
+fn mode_after_dash(cipher: &[u8]) -> &[u8]
+    ensures { result.now ≡ mode_after_dash cipher.now }
+{
+    match dash_in(cipher) {
+        Some(dash) => &cipher[dash + 1..],
+        None => &[],
+    }
+}
+
+// The name in a cipher's name: what precedes the first dash.
+fn name_before_dash(cipher: &[u8]) -> &[u8]
+    ensures { result.now ≡ name_before_dash cipher.now }
+{
+    match dash_in(cipher) {
+        Some(dash) => &cipher[..dash],
+        None => cipher,
+    }
+}
+
+// How this cipher encrypts sectors.
+fn named_mode(cipher: &[u8]) -> CipherMode
+    ensures { result ≡ named_mode cipher.now }
+{
+    mode_of(cipher, name_before_dash(cipher), mode_after_dash(cipher))
+}
+
+/// How the cipher of this name encrypts sectors, in LUKS2.
+#[tactic(auto, unfolding(crate::specs::Cipher::cipher_mode2))]
+pub(crate) fn cipher_mode(cipher: Option<&str>) -> CipherMode
+    ensures { result ≡ cipher_mode2 (option_map (λ t. t.now) cipher.entry) }
+{
+    match cipher {
+        Some(name) => named_mode(name.as_bytes()),
+        None => CipherMode::Other,
     }
 }

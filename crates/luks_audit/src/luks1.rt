@@ -80,6 +80,7 @@ pub(crate) fn payload_row(alloc: Global, header: &Header1) -> Result<PayloadRow,
         integrity: None,
         flags: None,
         requirements: None,
+        has_linear: false,
         mode: mode(header),
     })
 }

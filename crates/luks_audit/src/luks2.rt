@@ -1,21 +1,20 @@
 //! The fields of a LUKS2 header (LUKS2 On-Disk Format Specification 1.1, sections 2.1 and 3).
 
-ghost use Rattle.std.specs.Prelude.{◌≡◌, ◌<◌, ◌==◌, IfOk, IfSome, List, codes, length};
-ghost use Rattle.std.specs.Prelude.{option_map, position, ℕ};
+ghost use Rattle.std.specs.Prelude.{◌≡◌, IfOk, List, codes, length, option_map, ℕ};
 ghost use Rattle.hex.specs.Hex.{encode_lower};
-ghost use Rattle.luks_audit.specs.Rows2.{digest2_row, header2_row, in_segment0, key_size_at};
-ghost use Rattle.luks_audit.specs.Rows2.{flags_of, key_size_in, length_in, mode_after_dash, cipher_mode2};
-ghost use Rattle.luks_audit.specs.Rows2.{name_before_dash, named_mode, segment_flags_of};
-ghost use Rattle.luks_audit.specs.Rows2.{other_header_of, payload2_row, priority2_of};
-ghost use Rattle.luks_audit.specs.Rows2.{requirements_of, slot2_row, token2_row, volume_key_size};
+ghost use Rattle.luks_audit.specs.Rows2.{any_linear, digest2_row, flags_of, has_linear};
+ghost use Rattle.luks_audit.specs.Rows2.{header2_row, in_segment0, key_size_at, key_size_in};
+ghost use Rattle.luks_audit.specs.Rows2.{length_in, other_header_of, payload2_row, priority2_of};
+ghost use Rattle.luks_audit.specs.Rows2.{requirements_of, segment_flags_of, slot2_row};
+ghost use Rattle.luks_audit.specs.Rows2.{token2_row, volume_key_size};
 ghost use Rattle.luks_report.specs.Dump2.{role_text};
 ghost use Rattle.luks2_json.specs.Member.{base64_member, decimal_member, in_member};
 ghost use Rattle.luks2_json.specs.Member.{integer_member, string_member};
-ghost use Rattle.serde_json.specs.Find.{get};
-ghost use Rattle.serde_json.specs.View.{view as data_of};
+ghost use Rattle.serde_json.specs.View.{members_view, view as data_of};
 
-use crate::cipher::mode_of;
-use crate::rows::{CipherMode, DigestRow, HeaderRow, Length, PayloadRow, SlotRow, TokenRow};
+use crate::cipher::cipher_mode;
+use crate::rows::{DigestRow, HeaderRow, Length, PayloadRow, SlotRow, TokenRow};
+use crate::shape;
 use crate::text::Text;
 use crate::tree::Tree;
 use crate::verdict::{is_kind_usable, kind_text, reason_text};
@@ -28,7 +27,7 @@ use luks2_json::member::{
     nested_integer, nested_string, string_is, string_member,
 };
 use luks2_json::numbered::object_numbered;
-use serde_json::Value;
+use serde_json::{Map, Value};
 use std::alloc::{AllocError, Global};
 
 // ---- the binary header
@@ -179,69 +178,40 @@ fn flags(alloc: Global, tree: &Value) -> Result<Option<Names>, AllocError>
     }
 }
 
-// The requirements of the configuration.
-fn config_requirements(tree: &Value) -> Option<&Value>
-    ensures { option_map (λ value. data_of value.now) result
-        ≡ in_member (codes "config") (get (codes "requirements"))
-        (data_of tree.now) }
-{
-    tree.get("config")?.get("requirements")
-}
-
 // The names of mandatory requirements.
 fn requirements(alloc: Global, tree: &Value) -> Result<Option<Names>, AllocError>
     ensures { IfOk result (λ names. names ≡ requirements_of (data_of tree.now)) }
 {
-    match config_requirements(tree) {
+    match shape::requirements(tree) {
         Some(requirements) => Ok(Some(strings_at(alloc, requirements, "mandatory")?)),
         None => Ok(None),
     }
 }
 
-// The index of the first dash.
-fn dash_in(cipher: &[u8]) -> Option<usize>
-    ensures value { result ≡ position (λ (byte : ℕ). byte == 45) cipher.now }
-    ensures bound { IfSome result (λ dash. dash < length cipher.now) }
+// Whether the type of one of the segments is `linear`.
+fn any_linear(segments: &Map<String, Value>) -> bool
+    ensures { result ≡ any_linear (members_view segments.now.entries) }
 {
-    cipher.iter().position(|byte| *byte == b'-')
-}
-
-// The mode in a cipher's name: what follows the first dash.
-fn mode_after_dash(cipher: &[u8]) -> &[u8]
-    ensures { result.now ≡ mode_after_dash cipher.now }
-{
-    match dash_in(cipher) {
-        Some(dash) => &cipher[dash + 1..],
-        None => &[],
+    for (_, segment) in segments.iter() {
+        if is_type(segment, "linear") {
+            return true;
+        }
     }
+    false
 }
 
-// The name in a cipher's name: what precedes the first dash.
-fn name_before_dash(cipher: &[u8]) -> &[u8]
-    ensures { result.now ≡ name_before_dash cipher.now }
+// Whether a segment is not encrypted.
+#[tactic(auto, unfolding(crate::specs::Rows2::has_linear))]
+fn has_linear(tree: &Value) -> bool
+    ensures { result ≡ has_linear (data_of tree.now) }
 {
-    match dash_in(cipher) {
-        Some(dash) => &cipher[..dash],
-        None => cipher,
+    let Some(segments) = tree.get("segments") else {
+        return false;
+    };
+    match segments.as_object() {
+        Some(segments) => any_linear(segments),
+        None => false,
     }
-}
-
-// How the cipher of this name encrypts sectors.
-#[tactic(auto, unfolding(crate::specs::Rows2::cipher_mode2))]
-fn mode(cipher: Option<&str>) -> CipherMode
-    ensures { result ≡ cipher_mode2 (option_map (λ t. t.now) cipher.entry) }
-{
-    match cipher {
-        Some(name) => named_mode(name.as_bytes()),
-        None => CipherMode::Other,
-    }
-}
-
-// How this cipher encrypts sectors.
-fn named_mode(cipher: &[u8]) -> CipherMode
-    ensures { result ≡ named_mode cipher.now }
-{
-    mode_of(cipher, name_before_dash(cipher), mode_after_dash(cipher))
 }
 
 /// The payload.
@@ -249,7 +219,7 @@ fn named_mode(cipher: &[u8]) -> CipherMode
 pub(crate) fn payload_row(alloc: Global, tree: &Value) -> Result<PayloadRow, AllocError>
     ensures { IfOk result (λ row. row ≡ payload2_row (data_of tree.now)) }
 {
-    let mode = mode(segment_string(tree, "encryption"));
+    let mode = cipher_mode(segment_string(tree, "encryption"));
     Ok(PayloadRow {
         cipher: Text::optional(alloc, segment_string(tree, "encryption"))?,
         key_bytes: volume_key_size(tree),
@@ -262,6 +232,7 @@ pub(crate) fn payload_row(alloc: Global, tree: &Value) -> Result<PayloadRow, All
         integrity: Text::optional(alloc, integrity(tree))?,
         flags: flags(alloc, tree)?,
         requirements: requirements(alloc, tree)?,
+        has_linear: has_linear(tree),
         mode,
     })
 }
@@ -348,7 +319,7 @@ pub(crate) fn slot_row(
         area_offset: nested_decimal(slot, "area", "offset"),
         area_size: nested_decimal(slot, "area", "size"),
         holds_key: is_type(slot, "luks2"),
-        mode: mode(nested_string(slot, "area", "encryption")),
+        mode: cipher_mode(nested_string(slot, "area", "encryption")),
     })
 }
 

@@ -25,6 +25,8 @@ pub enum CipherMode {
     Cbc,
     /// By XTS, with two keys for the cipher.
     Xts,
+    /// By LRW, with a second key of 16 bytes.
+    Lrw,
     /// In another mode, or one that is not known.
     Other,
 }
@@ -79,6 +81,9 @@ pub struct PayloadRow {
     pub flags: Option<Names>,
     /// What a program that reads the volume must support.
     pub requirements: Option<Names>,
+    /// Whether a segment is not encrypted, be it that the volume is being encrypted or decrypted.
+    /// This is not listed.
+    pub has_linear: bool,
     /// How the cipher encrypts sectors. This is not listed.
     pub mode: CipherMode,
 }

@@ -2,17 +2,13 @@
 
 ghost use Rattle.std.specs.Prelude.{◌≡◌};
 ghost use Rattle.luks_audit.specs.Weakness.{has_few_iterations, has_few_passes};
-ghost use Rattle.luks_audit.specs.Weakness.{has_little_memory, hash_in, uses_argon2};
-ghost use Rattle.luks_audit.specs.Weakness.{is_known_short, is_sha1, is_short, least_iterations};
-ghost use Rattle.luks_audit.specs.Weakness.{least_passes, names_sha1, owasp_iterations, own_key_len};
+ghost use Rattle.luks_audit.specs.Weakness.{has_little_memory, hash_in, is_sha1, least_iterations};
+ghost use Rattle.luks_audit.specs.Weakness.{least_passes, names_sha1, owasp_iterations, uses_argon2};
 
-use crate::rows::{CipherMode, SlotRow};
+use crate::rows::SlotRow;
 use crate::text::Text;
 use crate::token::is_named;
 use luks_kdf::Hash;
-
-/// The least length in bytes of a cipher's key that is not weak: 256 bits.
-pub(crate) const LEAST_KEY_LEN: u64 = 32;
 
 /// The least memory of Argon2 in KiB that is not weak: 64 MiB.
 pub(crate) const LEAST_MEMORY: u64 = 65_536;
@@ -107,34 +103,4 @@ pub(crate) fn has_few_passes(slot: &SlotRow) -> bool
     ensures { result ≡ has_few_passes slot.now }
 {
     uses_argon2(slot) && slot.time.unwrap_or(0) < least_passes(slot.memory.unwrap_or(0))
-}
-
-/// The length in bytes of the cipher's own key.
-pub(crate) fn own_key_len(mode: CipherMode, bytes: u64) -> u64
-    ensures { result ≡ own_key_len mode bytes }
-{
-    match mode {
-        CipherMode::Xts => bytes / 2,
-        CipherMode::Null | CipherMode::Ecb | CipherMode::Cbc | CipherMode::Other => bytes,
-    }
-}
-
-/// Whether the cipher's own key is short.
-pub(crate) fn is_short(mode: CipherMode, bytes: u64) -> bool
-    ensures { result ≡ is_short mode bytes }
-{
-    match mode {
-        CipherMode::Null => false,
-        mode => own_key_len(mode, bytes) < LEAST_KEY_LEN,
-    }
-}
-
-/// Whether the volume key is short, if its length is known.
-pub(crate) fn is_known_short(mode: CipherMode, bytes: Option<u64>) -> bool
-    ensures { result ≡ is_known_short mode bytes }
-{
-    match bytes {
-        Some(bytes) => is_short(mode, bytes),
-        None => false,
-    }
 }

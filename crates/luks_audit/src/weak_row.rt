@@ -8,7 +8,7 @@ use crate::text::Text;
 /// What is weak about a part of a header.
 #[derive(Clone, Copy)]
 pub enum Weakness {
-    /// Nothing is encrypted.
+    /// The data or the key material is not encrypted.
     NullCipher,
     /// Sectors are encrypted in ECB mode.
     EcbMode,

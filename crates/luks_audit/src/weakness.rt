@@ -1,17 +1,17 @@
 //! What is weak about a header.
 
-ghost use Rattle.std.specs.Prelude.{◌≡◌, ◌++◌, IfOk, OnOk, flat_map, option_map};
+ghost use Rattle.std.specs.Prelude.{◌≡◌, ◌++◌, IfOk, OnOk, Some, codes, flat_map, option_map};
 ghost use Rattle.luks_audit.specs.Weakness.{any_fails, area_weaknesses, by_limit, by_name};
 ghost use Rattle.luks_audit.specs.Weakness.{cipher_weaknesses, cost_severity, cost_weaknesses};
 ghost use Rattle.luks_audit.specs.Weakness.{digest_weaknesses, fails, found_if, hash_in};
 ghost use Rattle.luks_audit.specs.Weakness.{key_weakness, least_iterations, segment_weaknesses};
 ghost use Rattle.luks_audit.specs.Weakness.{sha1_of, slot_weaknesses, weak_list};
 
+use crate::key_len::{LEAST_KEY_LEN, is_known_short, is_short, own_key_len, segment_key_len};
 use crate::rows::{CipherMode, DigestRow, PayloadRow, SlotRow, TokenRow};
 use crate::rule::{
-    LEAST_DIGEST_ITERATIONS, LEAST_KEY_LEN, LEAST_MEMORY, has_few_iterations, has_few_passes,
-    has_little_memory, hash_in, is_known_short, is_short, least_iterations, least_passes,
-    names_sha1, own_key_len,
+    LEAST_DIGEST_ITERATIONS, LEAST_MEMORY, has_few_iterations, has_few_passes, has_little_memory,
+    hash_in, least_iterations, least_passes, names_sha1,
 };
 use crate::text::Text;
 use crate::token::has_random_key;
@@ -114,7 +114,7 @@ fn push_cipher(
         CipherMode::Null => by_name(alloc, Weakness::NullCipher, part, Severity::High, cipher)?,
         CipherMode::Ecb => by_name(alloc, Weakness::EcbMode, part, Severity::High, cipher)?,
         CipherMode::Cbc => by_name(alloc, Weakness::CbcMode, part, Severity::Low, cipher)?,
-        CipherMode::Xts | CipherMode::Other => return Ok(()),
+        CipherMode::Xts | CipherMode::Lrw | CipherMode::Other => return Ok(()),
     };
     Ok(weak.push(row)?)
 }
@@ -246,6 +246,20 @@ fn push_digest(alloc: Global, weak: &mut Vec<WeakRow>, digest: &DigestRow) -> Re
     push_if(weak, few, row)
 }
 
+// Adds that a segment is not encrypted, if one is not.
+fn push_linear(alloc: Global, weak: &mut Vec<WeakRow>, holds: bool) -> Result<(), AllocError>
+    ensures { OnOk result (weak.new.items ≡ weak.old.items ++ found_if holds
+        (by_name Weakness.NullCipher Part.Segment Severity.High (Some (codes "linear")))) }
+{
+    if holds {
+        let text = Some(Text::copied(alloc, "linear")?);
+        let null = Weakness::NullCipher;
+        let row = by_name(alloc, null, Part::Segment, Severity::High, &text)?;
+        weak.push(row)?;
+    }
+    Ok(())
+}
+
 // Adds the weaknesses of the segment.
 #[tactic(auto, unfolding(crate::specs::Weakness::segment_weaknesses))]
 fn push_segment(
@@ -255,8 +269,10 @@ fn push_segment(
 ) -> Result<(), AllocError>
     ensures { OnOk result (weak.new.items ≡ weak.old.items ++ segment_weaknesses payload.now) }
 {
-    let short = is_known_short(payload.mode, payload.key_bytes);
-    let key = key_weakness(Part::Segment, payload.mode, payload.key_bytes);
+    let bytes = segment_key_len(payload);
+    let short = is_known_short(payload.mode, bytes);
+    let key = key_weakness(Part::Segment, payload.mode, bytes);
+    push_linear(alloc, weak, payload.has_linear)?;
     push_cipher(alloc, weak, Part::Segment, payload.mode, &payload.cipher)?;
     push_if(weak, short, key)
 }

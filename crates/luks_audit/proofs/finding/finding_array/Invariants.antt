@@ -4,4 +4,4 @@ use Rattle.luks_audit.proofs.finding.finding_array.Given as goal
 
 -- the texts so far
 abbrev pub invariant-loop-finding : goal.invariant-loop-finding
-invariant-loop-finding l = l.findings ≡ flat_map wrong (take l.finding-index l.found)
+invariant-loop-finding l = l.findings ≡ flat_map (wrong l.header) (take l.finding-index l.found)

@@ -1,6 +1,6 @@
 use Rattle.std.proofs.Common.{◌≡◌, ◌==◌, ℕ, Some, None, refl, position, sym}
-use Rattle.luks_audit.specs.Rows2.{name_before_dash}
-use Rattle.luks_audit.proofs.luks2.name_before_dash.Goals as goal
+use Rattle.luks_audit.specs.Cipher.{name_before_dash}
+use Rattle.luks_audit.proofs.cipher.name_before_dash.Goals as goal
 
 pub returns-in-Some : goal.returns-in-Some
 unfolding name_before_dash

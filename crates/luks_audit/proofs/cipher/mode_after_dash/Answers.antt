@@ -1,7 +1,7 @@
 use Rattle.std.proofs.Common.{◌≡◌, ◌∙◌, ◌+◌, ◌==◌, ℕ, Some, None, ap, drop, refl, length-drop, position, sym, take}
 use Rattle.std.proofs.Math.Seq.{take-length}
-use Rattle.luks_audit.specs.Rows2.{mode_after_dash}
-use Rattle.luks_audit.proofs.luks2.mode_after_dash.Goals as goal
+use Rattle.luks_audit.specs.Cipher.{mode_after_dash}
+use Rattle.luks_audit.proofs.cipher.mode_after_dash.Goals as goal
 
 pub returns-in-Some : goal.returns-in-Some
 unfolding mode_after_dash
