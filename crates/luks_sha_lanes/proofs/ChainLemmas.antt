@@ -5,7 +5,7 @@ use Rattle.std.proofs.Common.{append_assoc, inl, inr}
 use Rattle.std.specs.Prelude.{slice_index, slice_index_or}
 use Rattle.std.specs.Int.{from_be_bytes, to_be_bytes, w32, w64}
 use Rattle.std.specs.Simd.Lanes.{zip2}
-use Rattle.std.proofs.lemmas.List.{take_all}
+use Rattle.std.proofs.lemmas.List.{drop_at, take_all, take_at}
 use Rattle.std.proofs.lemmas.Nat.{from_be_bytes-to_be_bytes_4, from_be_bytes-to_be_bytes_8}
 use Rattle.sha1.specs.Sha1 as Sha1
 use Rattle.sha2.specs.Sha256.{compress, digest_bytes, hash_after, initial_hash_256, padded_message, padding, sha256}
@@ -15,8 +15,8 @@ use Rattle.luks_sha_lanes.specs.Chains.{chain, chain_xor, hmac_by, iterations, i
 use Rattle.luks_sha_lanes.specs.Lanes.{AllTwice, IsTwice, after_digest, lane, word}
 use Rattle.luks_sha_lanes.specs.Pairs.{ArePairs, after_digest512, words}
 use Rattle.luks_sha_lanes.proofs.LaneLemmas.{all_twice, below_sixteen, below_two, word_of_lane, word_splat, words_fit}
-use Rattle.luks_sha_lanes.proofs.WordLemmas.{drop_prefix, length-bytes, length-digest_bytes, same_bytes, spells32}
-use Rattle.luks_sha_lanes.proofs.WordLemmas.{spells64, take_prefix, xor_of_words}
+use Rattle.luks_sha_lanes.proofs.WordLemmas.{length-bytes, length-digest_bytes, same_bytes, spells32}
+use Rattle.luks_sha_lanes.proofs.WordLemmas.{spells64, xor_of_words}
 
 -- ---- chains of digests: the padding of a digest fills its block
 
@@ -131,8 +131,8 @@ two_blocks padding size b d n whole is_long rest =
     rw long (append_assoc b d (padding (size + n))) in
     rw padded (record {
       long = omega (arith, length-append b tail);
-      first = take_prefix size b tail whole;
-      second = rw (drop_prefix size b tail whole) (take_all size tail (omega arith));
+      first = take_at b tail size whole;
+      second = rw (drop_at b tail size whole) (take_all size tail (omega arith));
     })
 
 hash1_of_two : (p b c : List ℕ) → IsTwoBlocks 64 p b c
@@ -214,17 +214,6 @@ chained512 hash first n known is = record {
       (omega (arith, size, length-append d rest, padding_fills n known))));
   xored = xor_of_words Sha512.digest_bytes (to_be_bytes w64) Sha512.word_at 8 spells64 8 n (in_state n known);
 }
-
--- the first 48 bytes of a hash value are its first six words
-pub sha384_words : (m : List ℕ) → Sha512.sha384 m
-    ≡ Sha512.digest_bytes (Sha512.final_hash Sha512.initial_hash_384 m) 6
-unfolding Sha512.sha384 Sha512.digest_bytes
-sha384_words m = refl
-
-pub sha512_words : (m : List ℕ) → Sha512.sha512 m
-    ≡ Sha512.digest_bytes (Sha512.final_hash Sha512.initial_hash_512 m) 8
-unfolding Sha512.sha512
-sha512_words m = refl
 
 -- ---- the block of a digest
 

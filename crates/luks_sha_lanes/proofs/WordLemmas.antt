@@ -1,4 +1,5 @@
 -- The words of digests and their bytes, and digests that follow one another.
+use Rattle.std.proofs.lemmas.Grind.{common_steps}
 use Rattle.std.proofs.Common.{◌≡◌, ℕ, zero, suc, ◌+◌, ◌*◌, ◌/◌, ◌%◌, ◌^◌, ◌<◌, ◌≤◌, List, [], ◌∷◌, ◌++◌, length, take}
 use Rattle.std.proofs.Common.{drop, bit_xor, refl, sym, subst, ap, ap₂, ◌∙◌, arith, length-append}
 use Rattle.std.proofs.Common.{length-drop, add_assoc, add-zero, inl, inr}
@@ -7,7 +8,7 @@ use Rattle.std.specs.Int.{to_be_bytes, w32, w64}
 use Rattle.std.specs.Simd.Lanes.{zip2}
 use Rattle.std.proofs.lemmas.Bool.{cases_lt}
 use Rattle.std.proofs.lemmas.List.{drop-take, get_or-drop, get_or-take, get_or_past, length-take, take-append-le}
-use Rattle.std.proofs.lemmas.List.{take-take, take_all}
+use Rattle.std.proofs.lemmas.List.{drop_at, take-take, take_all, take_at}
 use Rattle.std.proofs.lemmas.List.FromFn.{get_or-map-range_with_len}
 use Rattle.std.proofs.Math.Nat.{mul-le-mul_left}
 use Rattle.std.proofs.Math.Seq.{take-add, take-append_seam, drop-append_seam}
@@ -185,20 +186,14 @@ words_of_digest h bs fits n j long each =
 -- two digests, one after the other
 pub two_digests : (f : ℕ → List ℕ) (a b : List ℕ) (size : ℕ) → length (f 0) ≡ size → length (f 1) ≡ size
     → a ≡ f 0 → b ≡ f 1 → (j : ℕ) → j < 2 → digest_at size j (a ++ b) ≡ f j
-two_digests f a b size one two is_a is_b =
-    let none : size * 0 ≡ 0 = omega arith in
-    let all : size * 1 ≡ size = omega arith in
-    rw (is_a, is_b) (below_two (λ j. digest_at size j (f 0 ++ f 1) ≡ f j) (rw none (take_prefix size (f 0) (f 1) one))
-    (rw (all, drop_prefix size (f 0) (f 1) one) (take_all size (f 1) (omega arith))))
+two_digests f a b size one two is_a is_b = grind (arith, common_steps, below_two, take_at, drop_at, take_all)
 
 -- ---- digests that are written one after the other
 
 -- digest k is the one that was written last
 written_at : (size k : ℕ) (now digest rest : List ℕ) → size * k ≤ length now → length digest ≡ size
     → digest_at size k (take (size * k) now ++ (digest ++ rest)) ≡ digest
-written_at size k now digest rest inside whole =
-    let prefix : length (take (size * k) now) ≡ size * k = omega (arith, length-take (size * k) now) in
-    rw (drop_prefix (size * k) (take (size * k) now) (digest ++ rest) prefix) (take_prefix size digest rest whole)
+written_at size k now digest rest inside whole = grind (arith, common_steps, length-take, drop_at, take_at)
 
 -- a digest before it is unchanged
 written_before : (size k j : ℕ) (now rest : List ℕ) → size * k ≤ length now → j < k

@@ -30,6 +30,7 @@ fn add(a: u64x2, b: u64x2) -> u64x2
 }
 
 #[inline(always)]
+#[tactic(auto, using(crate::proofs::LaneLemmas::words_ch))]
 fn ch(x: u64x2, y: u64x2, z: u64x2) -> u64x2
     ensures { (j : ℕ) → j < 2 → word j result ≡ ch (word j x) (word j y) (word j z) }
 {
@@ -37,6 +38,7 @@ fn ch(x: u64x2, y: u64x2, z: u64x2) -> u64x2
 }
 
 #[inline(always)]
+#[tactic(auto, using(crate::proofs::LaneLemmas::words_maj))]
 fn maj(x: u64x2, y: u64x2, z: u64x2) -> u64x2
     ensures { (j : ℕ) → j < 2 → word j result ≡ maj (word j x) (word j y) (word j z) }
 {

@@ -63,6 +63,7 @@ fn xor_words(x: &[u64x2; 8], y: &[u64x2; 8]) -> [u64x2; 8]
 }
 
 #[inline(always)]
+#[tactic(auto, using(crate::proofs::LaneLemmas::words_xored))]
 fn xor(a: u64x2, b: u64x2) -> u64x2
     ensures { (j : ℕ) → j < 2 → word j result ≡ bit_xor (word j a) (word j b) }
 {

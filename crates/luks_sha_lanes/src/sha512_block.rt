@@ -18,6 +18,7 @@ fn ch(x: u64, y: u64, z: u64) -> u64
 }
 
 #[inline(always)]
+#[tactic(auto, using(crate::proofs::LaneLemmas::maj_short))]
 fn maj(x: u64, y: u64, z: u64) -> u64
     ensures { result ≡ maj x y z }
 {

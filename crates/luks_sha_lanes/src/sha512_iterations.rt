@@ -21,6 +21,7 @@ fn pair(first: u64, second: u64) -> u64x2
 // The words of a SHA-512 digest after one block, and of its padding: a bit 1, zeros, and the length
 // of the block and the digest in bits.
 #[inline(always)]
+#[tactic(auto, using(crate::proofs::ChainLemmas::padded_words512))]
 fn digest_block512(d: &[u64; 8]) -> [u64x2; 8]
     ensures { ArePairs result (digest_bytes d.now 8 ++ padding 192) }
 {
@@ -38,6 +39,7 @@ fn digest_block512(d: &[u64; 8]) -> [u64x2; 8]
 
 // The same of a SHA-384 digest, whose words are the first six.
 #[inline(always)]
+#[tactic(auto, using(crate::proofs::ChainLemmas::padded_words384))]
 fn digest_block384(d: &[u64; 8]) -> [u64x2; 8]
     ensures { ArePairs result (digest_bytes d.now 6 ++ padding 176) }
 {

@@ -1,16 +1,12 @@
-use Rattle.std.proofs.Common.{◌≡◌, ◌∙◌, sym, ap, arith}
-use Rattle.std.specs.Int.{to_be_bytes, w32}
+use Rattle.std.proofs.lemmas.Grind.{common_steps}
+use Rattle.std.proofs.Common.{◌≡◌, ◌∙◌, sym, arith}
 use Rattle.std.proofs.lemmas.List.{take_all}
 use Rattle.sha2.proofs.Absorbing256.{digest_more}
-use Rattle.luks_sha_lanes.specs.Lanes.{lane}
 use Rattle.luks_sha_lanes.proofs.LaneLemmas.{word_of_lane}
 use Rattle.luks_sha_lanes.proofs.sha256_chains.store.Goals as goal
 
 pub words-preserved : goal.words-preserved
-words-preserved c =
-    digest_more c.words.out (lane c.args.j c.args.x.now) _ c.words.i _ c.words.invariant (omega arith)
-    (c.copy_from_slice.ensures.after ∙ c.to_be_bytes.ensures
-    ∙ ap (to_be_bytes w32) (c.lane_word-word.ensures ∙ sym (word_of_lane c.args.j c.args.x.now c.words.i)))
+words-preserved c = grind (arith, common_steps, digest_more, word_of_lane)
 
 pub returns : goal.returns
 returns c =

@@ -1,5 +1,0 @@
-use Rattle.luks_sha_lanes.proofs.LaneLemmas.{words_ch}
-use Rattle.luks_sha_lanes.proofs.sha1_block.ch.Goals as goal
-
-pub returns : goal.returns
-returns g c = words_ch g.row.N c.args.x c.fits-x.0 c.args.y c.fits-y.0 c.args.z c.fits-z.0

@@ -1,5 +1,0 @@
-use Rattle.luks_sha_lanes.proofs.LaneLemmas.{words_xored}
-use Rattle.luks_sha_lanes.proofs.sha1_block.xor.Goals as goal
-
-pub returns : goal.returns
-returns g c = words_xored g.row.N c.args.a c.fits-a.0 c.args.b c.fits-b.0
