@@ -1,24 +1,17 @@
 -- What is printed of an image, and what its audit shows.
-use Rattle.std.specs.Prelude.{◌≡◌, ◌⊎◌, ℕ, Bool, true, false, List, Result, Ok, Err, codes, if◌then◌else◌}
+use Rattle.std.specs.Prelude.{◌≡◌, ◌⊎◌, ℕ, Bool, true, false, List, Result, Ok, Err, if◌then◌else◌}
 use Rattle.luks_format.specs.Area.{is_read_fault}
 use Rattle.luks_format.specs.declared.fault.HeaderFault.{HeaderFault}
 use Rattle.luks_format.specs.declared.fault.HeaderFault.TheVariants.{NotLuks, Cut, Json, Read, Memory}
 use Rattle.luks_header.specs.Header.{header_of}
 use Rattle.luks_header.specs.declared.header.Header.{Header}
 use Rattle.luks_audit.specs.Audit.{audit_value, is_clean}
+use Rattle.luks_report.specs.HeaderFault.{fault_listed}
 use Rattle.luks_audit.specs.Line.{error_value, line_text}
 use Rattle.luks_audit.specs.declared.image.Policy.{Policy}
 use Rattle.luks_audit.specs.declared.image.State.{State}
 use Rattle.luks_audit.specs.declared.image.State.TheVariants.{Clean, Flawed, Unread}
 use Rattle.luks_audit.specs.declared.line.Format.{Format}
-
--- why there is no header, as it is printed
-abbrev pub error_text : HeaderFault → List ℕ
-error_text NotLuks = codes "no LUKS header"
-error_text Cut = codes "header is truncated"
-error_text Json = codes "JSON area cannot be read"
-error_text Read = codes "read failed"
-error_text Memory = codes "out of memory"
 
 -- an image without a header is flawed; one that was not read is neither clean nor flawed
 abbrev pub fault_state : HeaderFault → State
@@ -33,7 +26,7 @@ header_state policy header = if is_clean policy header then Clean else Flawed
 
 -- the line of an image without a header
 abbrev pub fault_line : Format → List ℕ → HeaderFault → List ℕ
-fault_line format file fault = line_text format (error_value file (error_text fault))
+fault_line format file fault = line_text format (error_value file (fault_listed fault))
 
 -- the line of a header
 abbrev pub header_line : Policy → List ℕ → ℕ → Header → List ℕ

@@ -1,5 +1,5 @@
 -- Which member of a LUKS1 header each field is (LUKS1 On-Disk Format Specification 1.2.3, section 2.1, figures 1 to 3).
-use Rattle.std.specs.Prelude.{ℕ, ◌*◌, ◌++◌, Bool, false, List, Option, Some, None, codes, not}
+use Rattle.std.specs.Prelude.{ℕ, ◌*◌, ◌++◌, Bool, false, List, Some, None, codes, not}
 use Rattle.hex.specs.Hex.{encode_lower}
 use Rattle.luks_report.specs.DumpLine.{escaped}
 use Rattle.luks_format.specs.Rule.{key_material_len}

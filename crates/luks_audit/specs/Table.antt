@@ -1,5 +1,5 @@
 -- The names of the members of each object, with their values.
-use Rattle.std.specs.Prelude.{ℕ, List, [], ◌∷◌, Option, Some, None, codes, map, option_map, unwrap_or}
+use Rattle.std.specs.Prelude.{ℕ, List, [], ◌∷◌, Option, Some, None, codes, map, unwrap_or}
 use Rattle.luks_audit.specs.Token.{slot_tokens}
 use Rattle.luks_audit.specs.Tree.{array_of, empty_object, num, optional_num, optional_text, with_fields}
 use Rattle.luks_audit.specs.declared.rows.DigestRow.{DigestRow}

@@ -1,6 +1,6 @@
 -- What is weak, judged by fields that headers of both formats have. A number that a header lacks counts as 0.
 use Rattle.std.specs.Prelude.{ℕ, ◌&&◌, ◌||◌, ◌++◌, Bool, true, false, List, [], ◌∷◌, Option, Some, None, codes, decimal}
-use Rattle.std.specs.Prelude.{flat_map, if◌then◌else◌, map, nat_le, nat_lt, option_and_then, option_map, unwrap_or}
+use Rattle.std.specs.Prelude.{flat_map, if◌then◌else◌, nat_le, nat_lt, option_and_then, option_map, unwrap_or}
 use Rattle.luks_kdf.specs.Hash.{hash_named}
 use Rattle.luks_kdf.specs.declared.hash.Hash.{Hash}
 use Rattle.luks_kdf.specs.declared.hash.Hash.TheVariants.{Sha1, Sha224, Sha256, Sha384, Sha512}

@@ -3,7 +3,7 @@
 ghost use Rattle.std.specs.Prelude.{◌≡◌, Bool, IfOk, OnErr};
 ghost use Rattle.luks_io.specs.Counts.{Reads};
 ghost use Rattle.luks_io.specs.Devices.{IfKnown};
-ghost use Rattle.luks_audit.specs.Image.{IsAudited, IsAuditedAnyway, error_text, fault_line};
+ghost use Rattle.luks_audit.specs.Image.{IsAudited, IsAuditedAnyway, fault_line};
 ghost use Rattle.luks_audit.specs.Image.{fault_state, header_line, header_state};
 
 use crate::audit::audit_header;
@@ -12,6 +12,7 @@ use crate::weak_row::Severity;
 use luks_header::fault::HeaderFault;
 use luks_header::header::{Header, read_header};
 use luks_io::source::Source;
+use luks_report::header_fault::fault_listed;
 use std::alloc::{AllocError, Global};
 
 /// How headers are audited and printed.
@@ -45,19 +46,6 @@ pub struct ImageLine {
     pub state: State,
 }
 
-// What is printed if there is no header.
-fn error_text(fault: HeaderFault) -> &'static str
-    ensures { result.now ≡ error_text fault }
-{
-    match fault {
-        HeaderFault::NotLuks => "no LUKS header",
-        HeaderFault::Cut => "header is truncated",
-        HeaderFault::Json => "JSON area cannot be read",
-        HeaderFault::Read => "read failed",
-        HeaderFault::Memory => "out of memory",
-    }
-}
-
 // What the audit showed if there is no header.
 fn fault_state(fault: HeaderFault) -> State
     ensures { result ≡ fault_state fault }
@@ -81,7 +69,7 @@ pub fn fault_line(
 ) -> Result<Vec<u8>, AllocError>
     ensures { IfOk result (λ line. line.items ≡ fault_line format file.now fault) }
 {
-    let tree = error_tree(alloc, file, error_text(fault))?;
+    let tree = error_tree(alloc, file, fault_listed(fault))?;
     line_text(alloc, format, &tree)
 }
 

@@ -7,7 +7,9 @@ ghost use Rattle.luks_c.specs.Stored.{StoresCode, StoresFault, StoresMessage, co
 
 use crate::message::LuksrdMessage;
 use luks_access::key::KeyCheck;
+use luks_header::fault::HeaderFault;
 use luks_open::fault::VolumeFault;
+use luks_report::header_fault::fault_sentence;
 use luks_report::message::Message;
 
 /// Success.
@@ -106,9 +108,9 @@ fn sentence(code: u32) -> (u32, &'static str)
 {
     match code {
         0 => (0, ""),
-        1 => (4, "luksrd: not a LUKS image"),
-        2 => (4, "luksrd: image ends inside the header or a key area"),
-        3 => (4, "luksrd: LUKS2 JSON area is not readable"),
+        1 => (4, fault_sentence(HeaderFault::NotLuks)),
+        2 => (4, fault_sentence(HeaderFault::Cut)),
+        3 => (4, fault_sentence(HeaderFault::Json)),
         4 => (1, "luksrd: segment refused"),
         5 => (1, "luksrd: key slot is not there"),
         6 => (1, "luksrd: key slot is disabled"),
@@ -116,7 +118,7 @@ fn sentence(code: u32) -> (u32, &'static str)
         8 => (1, "luksrd: no key slot can be tried"),
         9 => (1, "luksrd: key file is longer than 8388608 bytes"),
         10 => (2, "luksrd: no key opens the volume"),
-        11 => (3, "luksrd: out of memory"),
+        11 => (3, fault_sentence(HeaderFault::Memory)),
         12 => (4, "luksrd: image ends before the payload"),
         13 => (4, "luksrd: image ends inside a sector"),
         14 => (4, "luksrd: image ends before the segment does"),

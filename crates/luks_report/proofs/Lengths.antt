@@ -2,6 +2,9 @@
 use Rattle.std.proofs.Common.{◌≤◌, length, arith}
 use Rattle.luks_header.specs.SegmentFault.{fault_text}
 use Rattle.luks_header.specs.SkipReason.{reason_text}
+use Rattle.luks_format.specs.declared.fault.HeaderFault.{HeaderFault}
+use Rattle.luks_format.specs.declared.fault.HeaderFault.TheVariants.{NotLuks}
+use Rattle.luks_report.specs.HeaderFault.{fault_sentence}
 use Rattle.luks_format.specs.declared.refusal.SkipReason.{SkipReason}
 use Rattle.luks_format.specs.declared.refusal.SkipReason.TheVariants.{State}
 use Rattle.luks_format.specs.declared.refusal.SegmentFault.{SegmentFault}
@@ -14,3 +17,7 @@ reason_len _ = omega arith
 pub fault_len : (fault : SegmentFault) → length (fault_text fault) ≤ 11
 fault_len Requirement = omega arith
 fault_len _ = omega arith
+
+pub sentence_len : (fault : HeaderFault) → length (fault_sentence fault) ≤ 50
+sentence_len NotLuks = omega arith
+sentence_len _ = omega arith

@@ -4,4 +4,5 @@ pub mod Dump2
 pub mod DumpLine
 pub mod Faults
 pub mod Findings
+pub mod HeaderFault
 pub mod Texts

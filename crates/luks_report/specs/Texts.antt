@@ -7,7 +7,10 @@ pub use Rattle.luks_report.specs.Findings.{findings_of}
 use Rattle.luks_header.specs.SegmentFault.{fault_text}
 use Rattle.luks_header.specs.SkipReason.{reason_text}
 use Rattle.luks_header.specs.declared.header.Header.{Header}
+use Rattle.luks_format.specs.declared.fault.HeaderFault.{HeaderFault}
+use Rattle.luks_format.specs.declared.fault.HeaderFault.TheVariants as H
 use Rattle.luks_format.specs.declared.refusal.SkipReason.{SkipReason}
+use Rattle.luks_report.specs.HeaderFault.{fault_sentence}
 use Rattle.luks_report.specs.declared.message.Message.{Message}
 use Rattle.luks_report.specs.declared.message.Message.TheVariants.{Done, No, Usage, NotLuks, Cut, Json, KeyLength, Tail}
 use Rattle.luks_report.specs.declared.message.Message.TheVariants.{FewRandomBytes, FewStripes, OutOfMemory, ReadFailed}
@@ -56,6 +59,10 @@ opened_line number = codes "Key slot " ++ decimal number ++ codes " opens the vo
 unfoldable pub not_opened_line : List ℕ → List ℕ
 not_opened_line name = message_line (codes "cannot open " ++ name)
 
+-- the line for a header that was not read
+abbrev pub unread_line : HeaderFault → List ℕ
+unread_line fault = fault_sentence fault ++ 10 ∷ []
+
 -- the line that is printed for a message, or nothing if it has none
 abbrev pub line_of : Message → List ℕ
 line_of Done = []
@@ -70,17 +77,17 @@ line_of (NothingTried skips) = message_line (codes "no key slot can be tried" ++
 line_of KeyFileLength = message_line (codes "key file is longer than 8388608 bytes")
 line_of (NoKey skips) = message_line (codes "no key opens the volume" ++ skips_text skips)
 line_of Findings = message_line (codes "the header has findings")
-line_of NotLuks = message_line (codes "not a LUKS image")
-line_of Cut = message_line (codes "image ends inside the header or a key area")
-line_of Json = message_line (codes "LUKS2 JSON area is not readable")
+line_of NotLuks = unread_line H.NotLuks
+line_of Cut = unread_line H.Cut
+line_of Json = unread_line H.Json
 line_of CutBeforePayload = message_line (codes "image ends before the payload")
 line_of (Tail bytes) = message_line (codes "image ends inside a sector: " ++ decimal bytes ++ codes " bytes left over")
 line_of (Short bytes) = message_line (codes "image ends " ++ decimal bytes ++ codes " bytes before the segment does")
 line_of KeyLength = message_line (codes "key must be 1 to 512 bytes")
 line_of FewRandomBytes = message_line (codes "random bytes are too few")
 line_of FewStripes = message_line (codes "stripes are too few")
-line_of OutOfMemory = message_line (codes "out of memory")
-line_of ReadFailed = message_line (codes "read failed")
+line_of OutOfMemory = unread_line H.Memory
+line_of ReadFailed = unread_line H.Read
 line_of WriteFailed = message_line (codes "write failed")
 
 -- the exit status for a message

@@ -8,6 +8,7 @@ pub mod dump_line;
 mod escaping;
 mod fault_messages;
 pub mod findings;
+pub mod header_fault;
 pub mod input_not_opened;
 pub mod message;
 pub mod message_line;

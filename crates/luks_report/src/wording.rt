@@ -5,11 +5,13 @@ ghost use Rattle.std.specs.Prelude.{length, take};
 ghost use Rattle.luks_io.specs.Counts.{Writes};
 ghost use Rattle.luks_io.specs.Devices.{Appended};
 ghost use Rattle.luks_report.specs.Texts.{message_line, line_of, more_skips_text, skip_text};
-ghost use Rattle.luks_report.specs.Texts.{argon2_memory_text, skips_text};
+ghost use Rattle.luks_report.specs.Texts.{argon2_memory_text, unread_line, skips_text};
 
+use crate::header_fault::fault_sentence;
 use crate::message::Message;
 use crate::message_line::Line;
 use crate::usage::usage;
+use luks_header::fault::HeaderFault;
 use luks_header::refusal::SkipReason;
 use luks_io::sink::{Sink, WriteFault, put_all};
 use luks_open::skipped::SkippedSlots;
@@ -48,9 +50,9 @@ impl Message {
             Message::KeyFileLength => sentence("key file is longer than 8388608 bytes", ""),
             Message::NoKey(skipped) => with_skipped("no key opens the volume", skipped),
             Message::Findings => sentence("the header has findings", ""),
-            Message::NotLuks => sentence("not a LUKS image", ""),
-            Message::Cut => sentence("image ends inside the header or a key area", ""),
-            Message::Json => sentence("LUKS2 JSON area is not readable", ""),
+            Message::NotLuks => of_header(HeaderFault::NotLuks),
+            Message::Cut => of_header(HeaderFault::Cut),
+            Message::Json => of_header(HeaderFault::Json),
             Message::CutBeforePayload => sentence("image ends before the payload", ""),
             Message::Tail(left) => {
                 of_bytes("image ends inside a sector: ", *left, " bytes left over")
@@ -61,8 +63,8 @@ impl Message {
             Message::KeyLength => sentence("key must be 1 to 512 bytes", ""),
             Message::FewRandomBytes => sentence("random bytes are too few", ""),
             Message::FewStripes => sentence("stripes are too few", ""),
-            Message::OutOfMemory => sentence("out of memory", ""),
-            Message::ReadFailed => sentence("read failed", ""),
+            Message::OutOfMemory => of_header(HeaderFault::Memory),
+            Message::ReadFailed => of_header(HeaderFault::Read),
             Message::WriteFailed => sentence("write failed", ""),
         }
     }
@@ -87,6 +89,17 @@ fn text(text: &str) -> Line
 {
     let mut whole = Line::new();
     whole.push(text);
+    whole
+}
+
+// The line for a header that was not read.
+#[tactic(auto, using(crate::proofs::Lengths::sentence_len))]
+fn of_header(fault: HeaderFault) -> Line
+    ensures { result ≡ unread_line fault }
+{
+    let mut whole = Line::new();
+    whole.push(fault_sentence(fault));
+    whole.push("\n");
     whole
 }
 
