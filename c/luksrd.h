@@ -127,9 +127,10 @@ enum luksrd_code {
 /* How a volume is opened. `{ .size = sizeof(struct luksrd_options) }` is an attached header, every
  * key slot, and no limit of iterations, so that a hostile header may make opening take days.
  *
- * A key slot by Argon2 is tried if it is within both of its limits, and skipped with a reason
- * otherwise. If its memory is refused, luksrd_open returns LUKSRD_OUT_OF_MEMORY with the slot and
- * the memory in the message, and tries no later slot: a named slot or a limit gets around it.
+ * A key slot by Argon2 is tried if it is within both of its limits, and skipped otherwise, with the
+ * limit as the reason in the message and, for the first slot there, with what it asks for. If its
+ * memory is refused, luksrd_open returns LUKSRD_OUT_OF_MEMORY with the slot and the memory in the
+ * message, and tries no later slot: a named slot or a limit gets around it.
  *
  * The library of release 1.2.0 does not know the three fields for Argon2: it returns
  * LUKSRD_BAD_OPTIONS if one of them is not 0, and skips these slots if all are. */
@@ -228,7 +229,7 @@ struct luksrd_step {
 };
 
 /* A message: the exit status of `luksrd luksCat`, and the line that it prints on standard
- * error, without its newline. */
+ * error, without its newline. Each fits whole. */
 struct luksrd_message {
   uint32_t status; /* 0: success; 1: refused; 2: no key; 3: out of memory; 4: the image is not as it
                     * has to be */

@@ -1,5 +1,6 @@
 """Key slots by Argon2: the library, luksrd.py, the plugin and the filter open those of cryptsetup, and those that are
 written here; what limits them, what they leave in memory; and that luksrd itself skips them all."""
+import copy
 import functools
 import os
 import re
@@ -273,16 +274,18 @@ OUT_OF_RANGE = [
     ({"cpus": 0}, "argon2 cpus"), ({"cpus": 1 << 24}, "argon2 cpus"),
     ({"memory": 15}, "argon2 memory"), ({"memory": 1 << 32}, "argon2 memory"), ({"memory": 0}, "argon2 memory"),
     ({"cpus": 129}, "argon2 memory"),
-    ({"memory": 4194305}, "argon2 memory limit"), ({"memory": (1 << 32) - 1}, "argon2 memory limit"),
-    ({"time": 65537}, "argon2 fill limit"), ({"time": (1 << 32) - 1}, "argon2 fill limit"),
+    ({"memory": 4194305}, "argon2 memory limit, asks for 4194305 KiB"),
+    ({"memory": (1 << 32) - 1}, "argon2 memory limit, asks for 4294967295 KiB"),
+    ({"time": 65537}, "argon2 fill limit, asks for 67109888 KiB"),
+    ({"time": (1 << 32) - 1}, "argon2 fill limit, asks for 4398046510080 KiB"),
     *(({name: wrong}, "member") for name in ("time", "memory", "cpus") for wrong in (-1, "4", 4.0, None, [4])),
     ({"salt": "no base64"}, "member"), ({"salt": 8}, "member"),
 ]
 
 
 def is_skipped(message, slot, reason):
-    """Whether this is the reason for a slot; what it asks for may follow."""
-    return re.search(rf"skipped: (?:.*, )?{slot} \({reason}(?![a-z0-9]| [a-z])", message) is not None
+    """Whether this is the reason for a slot, with what it asks for if that is above a limit."""
+    return re.search(rf"skipped: (?:.*\), )?{slot} \({reason}\)", message) is not None
 
 
 @pytest.mark.parametrize("change, reason", OUT_OF_RANGE, ids=str)
@@ -314,28 +317,42 @@ def test_all_slots_skipped(way_of_zeros, image):
     def change(tree):
         slot = tree["keyslots"]["0"]
         slot["kdf"].update(memory=(1 << 32) - 1, time=(1 << 32) - 1)
-        tree["keyslots"] = {str(number): slot for number in range(32)}
+        tree["keyslots"] = {str(number): copy.deepcopy(slot) for number in range(32)}
+        tree["keyslots"]["0"]["kdf"].update(memory=4194304)
         tree["digests"]["0"]["keyslots"] = [str(number) for number in range(32)]
 
     volumes.edit_metadata(image, change)
     said = way_of_zeros(image)
-    assert all(is_skipped(said, number, "argon2 memory limit") for number in range(32)), said
-    assert len(said) <= 1015 and said.count(str((1 << 32) - 1)) <= 1
+    first = "luksrd: no key slot can be tried; skipped: 0 (argon2 fill limit, asks for 18014398505287680 KiB)"
+    assert said == first + "".join(f", {number} (argon2 memory limit)" for number in range(1, 32))
+    assert len(said) <= 1015
+
+
+def test_what_a_later_slot_asks_for(way_of_zeros, image):
+    """Only the first slot of a list says what it asks for, and only if that is above a limit."""
+    def change(tree):
+        first, second = (tree["keyslots"][number] for number in "01")
+        second["kdf"] = first["kdf"] | {"memory": (1 << 32) - 1}
+        first["kdf"]["time"] = 0
+
+    volumes.edit_metadata(image, change)
+    assert way_of_zeros(image) == SKIPPED.format("argon2 time") + ", 1 (argon2 memory limit)"
 
 
 # ---- limits
 
 MIB = 1 << 20
+MEMORY, FILL = "argon2 memory limit, asks for 1024 KiB", "argon2 fill limit, asks for 5120 KiB"
 
 
 @pytest.mark.parametrize("limits, reason", [
-    ({"memory": MIB}, ""), ({"memory": MIB - 1}, "argon2 memory limit"),
-    ({"memory": MIB - 1024}, "argon2 memory limit"), ({"memory": 1024}, "argon2 memory limit"),
-    ({"fill": 5 * MIB}, ""), ({"fill": 5 * MIB - 1}, "argon2 fill limit"),
-    ({"fill": 4 * MIB}, "argon2 fill limit"), ({"fill": MIB}, "argon2 fill limit"),
+    ({"memory": MIB}, ""), ({"memory": MIB - 1}, MEMORY),
+    ({"memory": MIB - 1024}, MEMORY), ({"memory": 1024}, MEMORY),
+    ({"fill": 5 * MIB}, ""), ({"fill": 5 * MIB - 1}, FILL),
+    ({"fill": 4 * MIB}, FILL), ({"fill": MIB}, FILL),
     ({"memory": MIB, "fill": 5 * MIB}, ""),
     ({"memory": (4 << 40) - 1024, "fill": ((1 << 32) - 1) * MIB}, ""),
-    ({"memory": 1024, "fill": MIB}, "argon2 memory limit")], ids=str)
+    ({"memory": 1024, "fill": MIB}, MEMORY)], ids=str)
 def test_limits(way, image, limits, reason):
     """At a limit the slot is tried, and below one it is skipped. The slot by PBKDF2 has none of them."""
     said = way(image, **limits)
@@ -349,12 +366,13 @@ def test_limits(way, image, limits, reason):
 def test_rounded_fill(way, image):
     """4,100 KiB are more than 4 MiB."""
     convert(image, Cost("argon2id", 4, 1025, 1))
-    assert is_skipped(way(image, fill=4 * MIB), 0, "argon2 fill limit")
+    assert is_skipped(way(image, fill=4 * MIB), 0, "argon2 fill limit, asks for 4100 KiB")
     assert way(image, fill=5 * MIB) == PLAIN
 
 
 def test_named_slot_over_a_limit(way, image):
-    assert way(image, slot=0, memory=1024).startswith("luksrd: key slot 0 is skipped: argon2 memory limit")
+    assert way(image, slot=0, memory=1024) == f"luksrd: key slot 0 is skipped: {MEMORY}"
+    assert way(image, slot=0, fill=MIB) == f"luksrd: key slot 0 is skipped: {FILL}"
     assert way(image, slot=0) == PLAIN
 
 
@@ -370,7 +388,7 @@ def test_refused_memory(way, image):
         assert way(image, key, before=LITTLE) == "luksrd: out of memory: Argon2 needs 4194304 KiB for key slot 0"
     assert way(image, "pass2", slot=1, before=LITTLE) == PLAIN
     assert way(image, "pass2", memory=1 << 30, before=LITTLE) == PLAIN
-    assert is_skipped(way(image, memory=1 << 30, before=LITTLE), 0, "argon2 memory limit")
+    assert is_skipped(way(image, memory=1 << 30, before=LITTLE), 0, "argon2 memory limit, asks for 4194304 KiB")
     # a slot before it opens
     cryptsetup("config --priority prefer --key-slot 1", image)
     assert way(image, "pass2", before=LITTLE) == PLAIN

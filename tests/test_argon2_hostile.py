@@ -52,9 +52,9 @@ def reasons(kdf):
     if memory is not None and not 8 * (lanes or 0) <= memory < 1 << 32:
         found.add("argon2 memory")
     if not found and memory > MEMORY_KIB:
-        found.add("argon2 memory limit")
+        found.add(f"argon2 memory limit, asks for {memory} KiB")
     if not found and passes * memory > FILL_MIB * 1024:
-        found.add("argon2 fill limit")
+        found.add(f"argon2 fill limit, asks for {passes * memory} KiB")
     return found
 
 
@@ -105,7 +105,7 @@ def opened(library, monkeypatch):
 def check(ended, wanted, is_same):
     """Whether a hostile header ended in one of the ways that it may."""
     if wanted:
-        found = re.fullmatch(r"luksrd: no key slot can be tried; skipped: 0 \(([a-z0-9 ]+)\)", str(ended))
+        found = re.fullmatch(r"luksrd: no key slot can be tried; skipped: 0 \(([A-Za-z0-9, ]+)\)", str(ended))
         return found is not None and found[1] in wanted
     return ended == (PLAIN if is_same else "luksrd: no key opens the volume")
 

@@ -123,14 +123,16 @@ def of_one_mib(way, cached):
 @pytest.mark.parametrize("parameters, reason", [
     ([], ""), (["argon2=yes"], ""), (["argon2=on", "argon2-memory=4G", "argon2-fill=64G"], ""),
     (["argon2-memory=1M"], ""), (["argon2-memory=1024K"], ""), (["argon2-memory=2048s"], ""),
-    (["argon2-memory=1023K"], "argon2 memory limit"), (["argon2-memory=1048575"], "argon2 memory limit"),
+    (["argon2-memory=1023K"], "argon2 memory limit, asks for 1024 KiB"),
+    (["argon2-memory=1048575"], "argon2 memory limit, asks for 1024 KiB"),
     (["argon2-fill=5M"], ""), (["argon2-fill=5120K"], ""), (["argon2-fill=1T"], ""),
-    (["argon2-fill=4M"], "argon2 fill limit"), (["argon2-fill=5119K"], "argon2 fill limit"),
+    (["argon2-fill=4M"], "argon2 fill limit, asks for 5120 KiB"),
+    (["argon2-fill=5119K"], "argon2 fill limit, asks for 5120 KiB"),
     (["argon2=no"], "argon2id"), (["argon2=off", "argon2-memory=1M"], "argon2id")], ids=str)
 def test_argon2(way, of_one_mib, parameters, reason):
     """A size may have a suffix; 2,048 sectors of 512 bytes are 1 MiB, too."""
     if reason:
-        way.refuses(f"{NO_KEY}; skipped: 1 ({reason}", of_one_mib, "key-file=pass2", *parameters)
+        way.refuses(f"{NO_KEY}; skipped: 1 ({reason})", of_one_mib, "key-file=pass2", *parameters)
     else:
         way.gives(way.kinds.text(VOLUME2), of_one_mib, "key-file=pass2", *parameters)
 

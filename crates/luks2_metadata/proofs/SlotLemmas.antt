@@ -146,7 +146,7 @@ IsSaltFor (Pbkdf2 hash iterations) salt = Unit {0}
 IsSaltFor (Argon2 parameters) salt = length salt < 2 ^ 32
 
 -- if there is no reason to skip a slot because of the function that derives its key, that function may be used
-allowed : (limits : Limits) (slot : Data) → form_refusal limits slot ≡ None
+pub allowed : (limits : Limits) (slot : Data) → form_refusal limits slot ≡ None
     → has_known_hash (kdf2_of slot) ≡ true → is_allowed limits (kdf2_of slot) ≡ true
 unfolding form_refusal kdf2_of variant_of
 allowed limits slot none known =

@@ -1,7 +1,7 @@
 -- The codes and the structs of `c/luksrd.h`, field by field, how a volume is read back, and what the functions answer.
 use Rattle.std.specs.Prelude.{ℕ, ◌≡◌, ◌-◌, ◌==◌, if◌then◌else◌, drop, length, replicate, take, Option, None, Some, []}
-use Rattle.std.specs.Prelude.{Bool, List, ◌&&◌, bytes_eq, codes, false, min, nat_lt, true}
-use Rattle.std.specs.Prelude.{unwrap_or, ◌≢◌, ◌+◌, ◌*◌, ◌/◌, ◌%◌, ◌^◌, Result, Ok}
+use Rattle.std.specs.Prelude.{Bool, List, ◌&&◌, bytes_eq, codes, false, nat_lt, true}
+use Rattle.std.specs.Prelude.{unwrap_or, ◌≢◌, ◌+◌, ◌*◌, ◌/◌, ◌%◌, ◌^◌, ◌≤◌, Result, Ok}
 use Rattle.std.specs.Prelude.{Err}
 use Rattle.luks_access.specs.declared.options.Options.{Options}
 use Rattle.luks_open.specs.declared.unlocked.UnlockedVolume.{UnlockedVolume}
@@ -79,11 +79,12 @@ sentence_for code =
     else if code == 19 then (1, codes "luksrd: no digest to compare the volume key with")
     else (1, codes "luksrd: no such code")
 
--- the struct holds this status and this text, as much of the text as fits, and zeros after it
+-- the struct holds this status, all of this text, and zeros after it, at least one
 pub record StoresText (c : LuksrdMessage) (status : ℕ) (text : List ℕ) : Type 0 where
   pub is_status : c.status ≡ status
-  pub is_len : c.len ≡ min 1015 (length text)
-  pub is_text : take c.len c.text ≡ take c.len text
+  pub is_len : c.len ≡ length text
+  pub fits : length text ≤ 1015
+  pub is_text : take c.len c.text ≡ text
   pub is_rest : drop c.len c.text ≡ replicate (1016 - c.len) 0
 
 -- the struct holds this message: its status, and its line without the newline

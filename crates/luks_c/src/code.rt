@@ -1,6 +1,6 @@
 //! The results of the functions: the numbers of `enum luksrd_code`.
 
-ghost use Rattle.std.specs.Prelude.{◌≡◌};
+ghost use Rattle.std.specs.Prelude.{◌≡◌, ◌≤◌, length};
 ghost use Rattle.luks_c.specs.Keys.{check_code};
 ghost use Rattle.luks_report.specs.Faults.{message_for_volume};
 ghost use Rattle.luks_c.specs.Stored.{StoresCode, StoresFault, StoresMessage, code_for, sentence_for};
@@ -105,6 +105,7 @@ pub(crate) fn answer_code(code: u32, message: &mut LuksrdMessage) -> u32
 fn sentence(code: u32) -> (u32, &'static str)
     ensures status { result.0 ≡ (sentence_for code).0 }
     ensures text { result.1.now ≡ (sentence_for code).1 }
+    ensures short { length result.1.now ≤ 100 }
 {
     match code {
         0 => (0, ""),

@@ -1,13 +1,13 @@
 //! The messages of luksrd, as C keeps them.
 
-ghost use Rattle.std.specs.Prelude.{◌≡◌, ◌+◌, ◌-◌, drop, length, min, replicate, take};
+ghost use Rattle.std.specs.Prelude.{◌≡◌, ◌+◌, ◌-◌, ◌≤◌, drop, length, replicate, take};
 ghost use Rattle.luks_report.specs.Texts.{argon2_memory_text};
 ghost use Rattle.luks_c.specs.Stored.{StoresMessage, StoresText};
 
 use luks_report::message::Message;
 use luks_report::wording::argon2_memory_line;
 
-/// The length of the longest sentence in bytes: more than any sentence needs. A zero follows it.
+/// How many bytes of a text fit. Each text that is stored fits, and a zero follows it.
 const CAPACITY: usize = 1015;
 
 /// The exit status of `luksrd luksCat`, and the line that it prints, without its newline.
@@ -21,16 +21,17 @@ pub struct LuksrdMessage {
     pub text: [u8; 1016],
 }
 
-// Writes as much of a text as fits, and zeros after it. Returns how many bytes of it were written.
+// Writes a text, and zeros after it. Returns its length.
 fn write_text(buf: &mut [u8], text: &[u8]) -> u32
-    requires { length buf.old ≡ CAPACITY + 1 }
-    ensures count { result ≡ min CAPACITY (length text.now) }
-    ensures text { take result buf.new ≡ take result text.now }
+    requires whole { length buf.old ≡ CAPACITY + 1 }
+    requires fits { length text.now ≤ CAPACITY }
+    ensures count { result ≡ length text.now }
+    ensures text { take result buf.new ≡ text.now }
     ensures rest { drop result buf.new ≡ replicate (CAPACITY + 1 - result) 0 }
 {
-    let len = text.len().min(CAPACITY);
+    let len = text.len();
     buf.fill(0);
-    buf[..len].copy_from_slice(&text[..len]);
+    buf[..len].copy_from_slice(text);
     len as u32
 }
 
@@ -57,6 +58,7 @@ impl LuksrdMessage {
 
     /// Stores an exit status and a text.
     pub(crate) fn set_text(&mut self, status: u32, text: &str)
+        requires { length text.now ≤ CAPACITY }
         ensures { StoresText self.new status text.now }
     {
         self.status = status;

@@ -17,7 +17,7 @@ use Rattle.luks_runs.specs.Run.{Consumed, Outcome, Prints, Aborted, AnyPromptnes
 use Rattle.luks_runs.specs.Run.{DetachedRunMatches, Promptness, RunEffects, RunMatches, aborts, is_run_read_failure}
 use Rattle.luks_runs.specs.Run.{is_run_write_failure}
 use Rattle.luks_runs.specs.VolumeOutcome.{payload_outcome, slot_outcome, volume_outcome, volume_outcome_by}
-use Rattle.luks_runs.specs.VolumeOutcome.{ConsumesLoaded, OpeningMessage}
+use Rattle.luks_runs.specs.VolumeOutcome.{CommandOpeningMessage, ConsumesLoaded, OpeningMessage}
 use Rattle.luks_request.specs.Request.{Request, VolumeRequest, luks_cat}
 use Rattle.luks_commands.specs.Headline.{CatAllows, Change, ConsumedAtLeast, ConsumedOfPayload, CountsCalls}
 use Rattle.luks_commands.specs.Headline.{CountsReads}
@@ -92,8 +92,9 @@ module _ (location : HeaderLocation) (slots : AllowedSlots) (image pass : List �
 -- writing the line about the key slot ends with one of these messages, and reads nothing
 pub slot_message : (slot : ℕ) (w w' : Option (List ℕ)) (message : Message)
     → Prints (opened_line slot) Done w w' message
-    → (OpeningMessage message ⊎ (message ≡ Done ⊎ message ≡ WriteFailed)) × (is_run_read_failure message ≡ false)
-slot_message slot w w' OutOfMemory printed = (inl tt, refl)
+    → (CommandOpeningMessage message ⊎ (message ≡ Done ⊎ message ≡ WriteFailed))
+    × (is_run_read_failure message ≡ false)
+slot_message slot w w' OutOfMemory printed = (inl (tt, tt), refl)
 slot_message slot w w' WriteFailed printed = (inr (inr refl), refl)
 slot_message slot w w' ReadFailed printed = absurd printed
 slot_message slot w w' _ printed = (inr (inl printed.0), refl)

@@ -21,7 +21,7 @@ use Rattle.luks_runs.specs.Stripe.{max_key_len, PromptSplit, merge_outcome, spli
 use Rattle.luks_open.specs.Volume.{HasSegmentBy, volume_by}
 use Rattle.luks_runs.specs.VolumeOutcome.{slot_outcome, OnOpened}
 use Rattle.luks_open.specs.Volume.{Volume, unlock_read_len}
-use Rattle.luks_runs.specs.VolumeOutcome.{volume_outcome_by, OpeningMessage}
+use Rattle.luks_runs.specs.VolumeOutcome.{volume_outcome_by, CommandOpeningMessage, OpeningMessage}
 use Rattle.luks_runs.specs.VolumeOutcome.{ends_untried}
 use Rattle.luks_runs.specs.VolumeOutcome.{payload_outcome}
 use Rattle.luks_runs.specs.Honest.{OpensHonest}
@@ -209,14 +209,15 @@ WritesPlain _ message image secret output = Unit {0}
 
 -- ---- `only`: the messages
 
--- the messages that a command may end with, whatever its devices do
+-- the messages that a command may end with, whatever its devices do. None names a reason to skip a key slot that only a
+-- program with Argon2 has
 abbrev pub MayReport : Request → Message → Type 0
 MayReport (is_luks _) message = IsLuksMessage message
 MayReport (luks_uuid _) message = PrintMessage message
 MayReport (luks_dump _) message = PrintMessage message
 MayReport (luks_check _) message = CheckMessage message
-MayReport (test_passphrase o) message = OpeningMessage message ⊎ (message ≡ Done ⊎ message ≡ WriteFailed)
-MayReport (luks_cat o) message = OpeningMessage message ⊎ PayloadMessage message
+MayReport (test_passphrase o) message = CommandOpeningMessage message ⊎ (message ≡ Done ⊎ message ≡ WriteFailed)
+MayReport (luks_cat o) message = CommandOpeningMessage message ⊎ PayloadMessage message
 MayReport (af_split s) message = SplitMessage message
 MayReport (af_merge m) message = MergeMessage message
 

@@ -84,14 +84,18 @@ memory_limit limits = option_map (λ l. l.memory_kib) limits
 abbrev pub fill_limit : Option Argon2Limits → Option ℕ
 fill_limit limits = option_map (λ l. l.fill_kib) limits
 
+-- the memory that all passes fill, in KiB
+abbrev pub fill_of : Argon2Parameters → ℕ
+fill_of parameters = parameters.passes * parameters.memory_kib
+
 -- the first reason not to derive a key by Argon2 with these parameters
 unfoldable pub argon2_refusal : Option Argon2Limits → Argon2Parameters → Option SkipReason
 argon2_refusal limits parameters = first_match (
     (passes_out_of_range parameters.passes, Argon2Time)
     ∷ (lanes_out_of_range parameters.lanes, Argon2Cpus)
     ∷ (memory_out_of_range parameters.memory_kib parameters.lanes, Argon2Memory)
-    ∷ (exceeds (memory_limit limits) parameters.memory_kib, Argon2MemoryLimit)
-    ∷ (exceeds (fill_limit limits) (parameters.passes * parameters.memory_kib), Argon2FillLimit)
+    ∷ (exceeds (memory_limit limits) parameters.memory_kib, Argon2MemoryLimit parameters.memory_kib)
+    ∷ (exceeds (fill_limit limits) (fill_of parameters), Argon2FillLimit (fill_of parameters))
     ∷ [])
 
 -- the first reason not to derive a key in this way: a number that is out of range, or a cost above its limit. Whether

@@ -1,7 +1,8 @@
 //! How the key of a slot's key material is derived from a passphrase, and what that may cost.
 
-ghost use Rattle.std.specs.Prelude.{◌≡◌, ◌*◌, option_map};
+ghost use Rattle.std.specs.Prelude.{◌≡◌, ◌^◌, ◌<◌, option_map};
 ghost use Rattle.luks_format.specs.Derivation.{argon2_refusal, derivation_refusal, fill_limit};
+ghost use Rattle.luks_format.specs.Derivation.{fill_of};
 ghost use Rattle.luks_format.specs.Derivation.{has_known_hash, is_derivable};
 ghost use Rattle.luks_format.specs.Derivation.{lanes_out_of_range, memory_limit};
 ghost use Rattle.luks_format.specs.Derivation.{memory_out_of_range, passes_out_of_range};
@@ -102,16 +103,22 @@ fn exceeds_memory(limits: Option<Argon2Limits>, memory_kib: u64) -> bool
     }
 }
 
-// Whether all passes together fill more memory than the limit, if there is one.
-fn exceeds_fill(limits: Option<Argon2Limits>, passes: u64, memory_kib: u64) -> bool
-    ensures { result ≡ exceeds (fill_limit limits) (passes * memory_kib) }
+// The memory that all passes fill, in KiB.
+fn fill_kib(parameters: Argon2Parameters) -> u64
+    requires passes { parameters.passes < 2 ^ 32 }
+    requires memory { parameters.memory_kib < 2 ^ 32 }
+    ensures { result ≡ fill_of parameters }
 {
-    let Some(limits) = limits else {
-        return false;
-    };
-    match passes.checked_mul(memory_kib) {
-        Some(fill_kib) => limits.fill_kib < fill_kib,
-        None => true,
+    parameters.passes * parameters.memory_kib
+}
+
+// Whether all passes together fill more memory than the limit, if there is one.
+fn exceeds_fill(limits: Option<Argon2Limits>, fill_kib: u64) -> bool
+    ensures { result ≡ exceeds (fill_limit limits) fill_kib }
+{
+    match limits {
+        Some(limits) => limits.fill_kib < fill_kib,
+        None => false,
     }
 }
 
@@ -120,21 +127,24 @@ fn exceeds_fill(limits: Option<Argon2Limits>, passes: u64, memory_kib: u64) -> b
 fn argon2_refusal(limits: Option<Argon2Limits>, parameters: Argon2Parameters) -> Option<SkipReason>
     ensures { result ≡ argon2_refusal limits parameters }
 {
-    let passes = parameters.passes;
     let memory_kib = parameters.memory_kib;
-    if passes_out_of_range(passes) {
-        Some(SkipReason::Argon2Time)
-    } else if lanes_out_of_range(parameters.lanes) {
-        Some(SkipReason::Argon2Cpus)
-    } else if memory_out_of_range(memory_kib, parameters.lanes) {
-        Some(SkipReason::Argon2Memory)
-    } else if exceeds_memory(limits, memory_kib) {
-        Some(SkipReason::Argon2MemoryLimit)
-    } else if exceeds_fill(limits, passes, memory_kib) {
-        Some(SkipReason::Argon2FillLimit)
-    } else {
-        None
+    if passes_out_of_range(parameters.passes) {
+        return Some(SkipReason::Argon2Time);
     }
+    if lanes_out_of_range(parameters.lanes) {
+        return Some(SkipReason::Argon2Cpus);
+    }
+    if memory_out_of_range(memory_kib, parameters.lanes) {
+        return Some(SkipReason::Argon2Memory);
+    }
+    if exceeds_memory(limits, memory_kib) {
+        return Some(SkipReason::Argon2MemoryLimit(memory_kib));
+    }
+    let fill_kib = fill_kib(parameters);
+    if exceeds_fill(limits, fill_kib) {
+        return Some(SkipReason::Argon2FillLimit(fill_kib));
+    }
+    None
 }
 
 impl Derivation {

@@ -2,7 +2,7 @@
 
 ghost use Rattle.std.specs.Prelude.{◌≡◌};
 ghost use Rattle.luks_format.specs.SegmentFault.{fault_text};
-ghost use Rattle.luks_format.specs.SkipReason.{reason_text};
+ghost use Rattle.luks_format.specs.SkipReason.{asked_kib, reason_text};
 
 /// Why a key slot cannot be tried. If there are several reasons, it is the first in this order.
 #[derive(Clone, Copy, PartialEq, Eq, Debug)]
@@ -36,10 +36,11 @@ pub enum SkipReason {
     Argon2Cpus,
     /// The same: the memory is less than 8 KiB for each CPU, or more than 4,294,967,295 KiB.
     Argon2Memory,
-    /// The same: the memory is above the limit.
-    Argon2MemoryLimit,
-    /// The same: the memory, filled as often as the time says, is above the limit.
-    Argon2FillLimit,
+    /// The same: the memory, so much in KiB, is above the limit.
+    Argon2MemoryLimit(u64),
+    /// The same: the memory, filled as often as the time says, is above the limit. That is so much
+    /// in KiB.
+    Argon2FillLimit(u64),
     /// The key material starts inside the header, or it ends past byte 33,554,432 or past the
     /// payload's start. LUKS2: or the area's size is below what the key material needs. The
     /// payload's start is no bound for a detached header, nor, in LUKS2, if the segment is refused.
@@ -69,10 +70,20 @@ impl SkipReason {
             SkipReason::Argon2Time => "argon2 time",
             SkipReason::Argon2Cpus => "argon2 cpus",
             SkipReason::Argon2Memory => "argon2 memory",
-            SkipReason::Argon2MemoryLimit => "argon2 memory limit",
-            SkipReason::Argon2FillLimit => "argon2 fill limit",
+            SkipReason::Argon2MemoryLimit(_) => "argon2 memory limit",
+            SkipReason::Argon2FillLimit(_) => "argon2 fill limit",
             SkipReason::Area => "area",
             SkipReason::Digest => "digest",
+        }
+    }
+
+    /// What the slot asks for in KiB, if that is above a limit on Argon2.
+    pub fn asked_kib(self) -> Option<u64>
+        ensures { result ≡ asked_kib self }
+    {
+        match self {
+            SkipReason::Argon2MemoryLimit(kib) | SkipReason::Argon2FillLimit(kib) => Some(kib),
+            _ => None,
         }
     }
 }

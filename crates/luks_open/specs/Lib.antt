@@ -5,6 +5,7 @@ pub mod Fault
 pub mod KeyFile
 pub mod Location
 pub mod Opening
+pub mod Reasons
 pub mod Skipped
 pub mod Trial
 pub mod Volume

@@ -1,10 +1,11 @@
 //! Finding a volume: its header, its segment, and the key slots to be tried.
 
-ghost use Rattle.std.specs.Prelude.{Bool, IfOk, IfErr};
+ghost use Rattle.std.specs.Prelude.{◌≡◌, Bool, IfOk, IfErr, is_none, true};
 ghost use Rattle.luks_io.specs.Counts.{Reads};
 ghost use Rattle.luks_io.specs.Devices.{IfKnown};
 ghost use Rattle.luks_open.specs.Fault.{has_fault, is_read_failure};
 ghost use Rattle.luks_open.specs.Location.{reader_for};
+ghost use Rattle.luks_open.specs.Reasons.{FaultWithoutArgon2};
 ghost use Rattle.luks_open.specs.Volume.{FindsNoVolume, FindsVolume, NoPassphraseFault};
 
 use crate::allowed::AllowedSlots;
@@ -44,6 +45,8 @@ pub fn find_volume<I: Source>(
     ensures found { IfOk result (λ volume. FindsVolume location slots volume
         (I.to_come image.old) (I.to_come image.new) (I.counts image.old) (I.counts image.new)) }
     ensures only { NoPassphraseFault result }
+    ensures without_argon2 { is_none slots.limits.argon2 ≡ true
+        → IfErr result FaultWithoutArgon2 }
     ensures err { IfErr result (λ fault. IfKnown (I.to_come image.old)
         (λ known. FindsNoVolume (reader_for location) slots known (I.to_come image.new) fault)) }
     ensures reads { (ended : Bool) × Reads (has_fault is_read_failure result) ended

@@ -1,5 +1,7 @@
--- Bounds on the lengths of the texts of reasons and faults.
-use Rattle.std.proofs.Common.{◌≤◌, length, arith}
+-- Bounds on the lengths of the texts of reasons, faults and small numbers.
+use Rattle.std.proofs.Common.{ℕ, ◌<◌, ◌≤◌, length, arith}
+use Rattle.std.specs.Fmt.{decimal}
+use Rattle.std.proofs.lemmas.Fmt.{length-decimal-le}
 use Rattle.luks_header.specs.SegmentFault.{fault_text}
 use Rattle.luks_header.specs.SkipReason.{reason_text}
 use Rattle.luks_format.specs.declared.fault.HeaderFault.{HeaderFault}
@@ -21,3 +23,6 @@ fault_len _ = omega arith
 pub sentence_len : (fault : HeaderFault) → length (fault_sentence fault) ≤ 50
 sentence_len NotLuks = omega arith
 sentence_len _ = omega arith
+
+pub few_digits : (n : ℕ) → n < 256 → length (decimal n) ≤ 3
+few_digits n few = length-decimal-le 3 n (omega arith) (omega (arith, few)) (omega (arith, few))

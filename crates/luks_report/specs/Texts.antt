@@ -1,11 +1,11 @@
 -- The texts of luksrd: its usage, its messages as printed on standard error, with the exit status of each, and what a
 -- check prints.
 use Prim.Native.String.{String}
-use Rattle.std.specs.Prelude.{ℕ, List, [], ◌∷◌, ◌++◌, ◌==◌, codes, flat_map, if◌then◌else◌, length, Result, Ok, Err}
+use Rattle.std.specs.Prelude.{ℕ, List, Option, Some, None, [], ◌∷◌, ◌++◌, ◌==◌, codes, flat_map, if◌then◌else◌, length, Result, Ok, Err}
 use Rattle.std.specs.Fmt.{decimal}
 pub use Rattle.luks_report.specs.Findings.{findings_of}
 use Rattle.luks_header.specs.SegmentFault.{fault_text}
-use Rattle.luks_header.specs.SkipReason.{reason_text}
+use Rattle.luks_header.specs.SkipReason.{asked_kib, reason_text}
 use Rattle.luks_header.specs.declared.header.Header.{Header}
 use Rattle.luks_format.specs.declared.fault.HeaderFault.{HeaderFault}
 use Rattle.luks_format.specs.declared.fault.HeaderFault.TheVariants as H
@@ -42,6 +42,16 @@ message_line text = codes "luksrd: " ++ text ++ 10 ∷ []
 abbrev pub skip_text : ℕ × SkipReason → List ℕ
 skip_text (number, reason) = decimal number ++ codes " (" ++ reason_text reason ++ codes ")"
 
+-- what a key slot asks for, if that is above a limit
+abbrev pub asked_text : Option ℕ → List ℕ
+asked_text None = []
+asked_text (Some kib) = codes ", asks for " ++ decimal kib ++ codes " KiB"
+
+-- the first key slot that was skipped, with what it asks for if that is above a limit
+abbrev pub first_skip_text : ℕ × SkipReason → List ℕ
+first_skip_text (number, reason) =
+    decimal number ++ codes " (" ++ reason_text reason ++ asked_text (asked_kib reason) ++ codes ")"
+
 -- further key slots that were skipped, after the first one
 abbrev pub more_skips_text : List (ℕ × SkipReason) → List ℕ
 more_skips_text skips = flat_map (λ skip. codes ", " ++ skip_text skip) skips
@@ -49,7 +59,7 @@ more_skips_text skips = flat_map (λ skip. codes ", " ++ skip_text skip) skips
 -- the text about the skipped key slots, at the end of a line
 abbrev pub skips_text : List (ℕ × SkipReason) → List ℕ
 skips_text [] = []
-skips_text (skip ∷ skips) = codes "; skipped: " ++ skip_text skip ++ more_skips_text skips
+skips_text (skip ∷ skips) = codes "; skipped: " ++ first_skip_text skip ++ more_skips_text skips
 
 -- what `testPassphrase` prints about the key slot that opens
 unfoldable pub opened_line : ℕ → List ℕ
@@ -72,7 +82,8 @@ line_of (SegmentRefused fault) = message_line (codes "segment refused: " ++ faul
 line_of (NoSuchSlot slot) = message_line (codes "key slot " ++ decimal slot ++ codes " is not there")
 line_of (SlotDisabled slot) = message_line (codes "key slot " ++ decimal slot ++ codes " is disabled")
 line_of (SlotSkipped slot reason) =
-    message_line (codes "key slot " ++ decimal slot ++ codes " is skipped: " ++ reason_text reason)
+    message_line (codes "key slot " ++ decimal slot ++ codes " is skipped: " ++ reason_text reason
+    ++ asked_text (asked_kib reason))
 line_of (NothingTried skips) = message_line (codes "no key slot can be tried" ++ skips_text skips)
 line_of KeyFileLength = message_line (codes "key file is longer than 8388608 bytes")
 line_of (NoKey skips) = message_line (codes "no key opens the volume" ++ skips_text skips)

@@ -56,6 +56,15 @@ impl Line {
         self.push(digits.format(number));
     }
 
+    /// Appends a number of at most three digits.
+    pub(crate) fn push_small(&mut self, number: u8)
+        requires { length self.old + 20 ≤ 2048 }
+        ensures value { self.new ≡ self.old ++ decimal number }
+        ensures short { length self.new ≤ length self.old + 3 }
+    {
+        self.push_number(u64::from(number));
+    }
+
     /// The bytes of the line.
     pub fn as_slice(&self) -> &[u8]
         ensures { result.now ≡ self.now }

@@ -5,7 +5,9 @@ ghost use Rattle.std.specs.Prelude.{length, take};
 ghost use Rattle.luks_io.specs.Counts.{Writes};
 ghost use Rattle.luks_io.specs.Devices.{Appended};
 ghost use Rattle.luks_report.specs.Texts.{message_line, line_of, more_skips_text, skip_text};
-ghost use Rattle.luks_report.specs.Texts.{argon2_memory_text, unread_line, skips_text};
+ghost use Rattle.luks_report.specs.Texts.{argon2_memory_text, asked_text, first_skip_text};
+ghost use Rattle.luks_report.specs.Texts.{skips_text, unread_line};
+ghost use Rattle.luks_header.specs.SkipReason.{asked_kib};
 
 use crate::header_fault::fault_sentence;
 use crate::message::Message;
@@ -35,17 +37,18 @@ impl Message {
     }
 
     /// The line of the message, newline included, or nothing if it has none.
-    #[tactic(auto, using(crate::proofs::Lengths::reason_len, crate::proofs::Lengths::fault_len))]
+    #[tactic(auto, using(crate::proofs::Lengths::fault_len))]
     pub fn line(&self) -> Line
-        ensures { result ≡ line_of self.now }
+        ensures value { result ≡ line_of self.now }
+        ensures fits { length result ≤ 1016 }
     {
         match self {
             Message::Done | Message::No => Line::new(),
             Message::Usage => text(usage()),
             Message::SegmentRefused(fault) => sentence("segment refused: ", fault.text()),
-            Message::NoSuchSlot(slot) => on_slot(*slot, " is not there", ""),
-            Message::SlotDisabled(slot) => on_slot(*slot, " is disabled", ""),
-            Message::SlotSkipped(slot, reason) => on_slot(*slot, " is skipped: ", reason.text()),
+            Message::NoSuchSlot(slot) => on_slot(*slot, " is not there"),
+            Message::SlotDisabled(slot) => on_slot(*slot, " is disabled"),
+            Message::SlotSkipped(slot, reason) => slot_skipped(*slot, *reason),
             Message::NothingTried(skipped) => with_skipped("no key slot can be tried", skipped),
             Message::KeyFileLength => sentence("key file is longer than 8388608 bytes", ""),
             Message::NoKey(skipped) => with_skipped("no key opens the volume", skipped),
@@ -72,7 +75,8 @@ impl Message {
 
 /// The text about memory that Argon2 needs for a key slot and does not get. It has no newline.
 pub fn argon2_memory_line(slot: u8, memory_kib: u32) -> Line
-    ensures { result ≡ argon2_memory_text slot memory_kib }
+    ensures value { result ≡ argon2_memory_text slot memory_kib }
+    ensures fits { length result ≤ 200 }
 {
     let mut whole = Line::new();
     whole.push("luksrd: out of memory: Argon2 needs ");
@@ -106,7 +110,8 @@ fn of_header(fault: HeaderFault) -> Line
 // A line of two texts.
 fn sentence(text: &str, rest: &str) -> Line
     requires { length text.now + length rest.now ≤ 200 }
-    ensures { result ≡ message_line (text.now ++ rest.now) }
+    ensures value { result ≡ message_line (text.now ++ rest.now) }
+    ensures fits { length result ≤ 300 }
 {
     let mut whole = Line::new();
     whole.push("luksrd: ");
@@ -119,7 +124,8 @@ fn sentence(text: &str, rest: &str) -> Line
 // A line with a number of bytes.
 fn of_bytes(text: &str, bytes: u64, rest: &str) -> Line
     requires { length text.now + length rest.now ≤ 200 }
-    ensures { result ≡ message_line (text.now ++ decimal bytes ++ rest.now) }
+    ensures value { result ≡ message_line (text.now ++ decimal bytes ++ rest.now) }
+    ensures fits { length result ≤ 300 }
 {
     let mut whole = Line::new();
     whole.push("luksrd: ");
@@ -131,23 +137,40 @@ fn of_bytes(text: &str, bytes: u64, rest: &str) -> Line
 }
 
 // A line about a key slot.
-fn on_slot(slot: u8, text: &str, rest: &str) -> Line
-    requires { length text.now + length rest.now ≤ 200 }
-    ensures { result ≡ message_line (codes "key slot " ++ decimal slot ++ text.now ++ rest.now) }
+fn on_slot(slot: u8, text: &str) -> Line
+    requires { length text.now ≤ 200 }
+    ensures value { result ≡ message_line (codes "key slot " ++ decimal slot ++ text.now) }
+    ensures fits { length result ≤ 300 }
 {
     let mut whole = Line::new();
     whole.push("luksrd: key slot ");
-    whole.push_number(u64::from(slot));
+    whole.push_small(slot);
     whole.push(text);
-    whole.push(rest);
+    whole.push("\n");
+    whole
+}
+
+// A line about a key slot that is named and skipped.
+#[tactic(auto, using(crate::proofs::Lengths::reason_len))]
+fn slot_skipped(slot: u8, reason: SkipReason) -> Line
+    ensures value { result ≡ line_of (Message.SlotSkipped slot reason) }
+    ensures fits { length result ≤ 300 }
+{
+    let mut whole = Line::new();
+    whole.push("luksrd: key slot ");
+    whole.push_small(slot);
+    whole.push(" is skipped: ");
+    whole.push(reason.text());
+    push_asked(&mut whole, reason);
     whole.push("\n");
     whole
 }
 
 // A line that ends with the key slots that were skipped.
 fn with_skipped(text: &str, skipped: &SkippedSlots) -> Line
-    requires { length text.now ≤ 100 }
-    ensures { result ≡ message_line (text.now ++ skips_text skipped.now) }
+    requires { length text.now ≤ 30 }
+    ensures value { result ≡ message_line (text.now ++ skips_text skipped.now) }
+    ensures fits { length result ≤ 1016 }
 {
     let mut whole = Line::new();
     whole.push("luksrd: ");
@@ -159,24 +182,52 @@ fn with_skipped(text: &str, skipped: &SkippedSlots) -> Line
 
 // Appends the text about the skipped key slots to a line.
 fn push_skipped(whole: &mut Line, skipped: &[(u8, SkipReason)])
-    requires short { length whole.old ≤ 200 }
+    requires short { length whole.old ≤ 40 }
     requires few { length skipped.now ≤ 32 }
     ensures value { whole.new ≡ whole.old ++ skips_text skipped.now }
-    ensures fits { length whole.new ≤ 2000 }
+    ensures fits { length whole.new ≤ length whole.old + 910 }
 {
     if let [first, rest @ ..] = skipped {
         whole.push("; skipped: ");
-        push_skip(whole, *first);
+        push_first_skip(whole, *first);
         push_more(whole, rest);
+    }
+}
+
+// Appends the first key slot that was skipped, and what it asks for if that is above a limit.
+#[tactic(auto, using(crate::proofs::Lengths::reason_len))]
+fn push_first_skip(whole: &mut Line, skip: (u8, SkipReason))
+    requires { length whole.old ≤ 60 }
+    ensures value { whole.new ≡ whole.old ++ first_skip_text skip }
+    ensures fits { length whole.new ≤ length whole.old + 60 }
+{
+    let (number, reason) = skip;
+    whole.push_small(number);
+    whole.push(" (");
+    whole.push(reason.text());
+    push_asked(whole, reason);
+    whole.push(")");
+}
+
+// Appends what a key slot asks for, if that is above a limit.
+fn push_asked(whole: &mut Line, reason: SkipReason)
+    requires { length whole.old ≤ 200 }
+    ensures value { whole.new ≡ whole.old ++ asked_text (asked_kib reason) }
+    ensures fits { length whole.new ≤ length whole.old + 35 }
+{
+    if let Some(kib) = reason.asked_kib() {
+        whole.push(", asks for ");
+        whole.push_number(kib);
+        whole.push(" KiB");
     }
 }
 
 // Appends further skipped key slots after the first one.
 fn push_more(whole: &mut Line, skipped: &[(u8, SkipReason)])
-    requires short { length whole.old ≤ 300 }
+    requires short { length whole.old ≤ 120 }
     requires few { length skipped.now ≤ 31 }
     ensures value { whole.new ≡ whole.old ++ more_skips_text skipped.now }
-    ensures fits { length whole.new ≤ 2000 }
+    ensures fits { length whole.new ≤ length whole.old + 837 }
 {
     for skip in skipped {
         whole.push(", ");
@@ -189,10 +240,10 @@ fn push_more(whole: &mut Line, skipped: &[(u8, SkipReason)])
 fn push_skip(whole: &mut Line, skip: (u8, SkipReason))
     requires { length whole.old ≤ 1900 }
     ensures value { whole.new ≡ whole.old ++ skip_text skip }
-    ensures fits { length whole.new ≤ length whole.old + 50 }
+    ensures fits { length whole.new ≤ length whole.old + 25 }
 {
     let (number, reason) = skip;
-    whole.push_number(u64::from(number));
+    whole.push_small(number);
     whole.push(" (");
     whole.push(reason.text());
     whole.push(")");

@@ -5,6 +5,7 @@ use Rattle.luks_format.specs.declared.fault.HeaderFault.TheVariants.{Read as Hea
 use Rattle.luks_format.specs.declared.segment.Segment.{Segment}
 use Rattle.luks_open.specs.declared.fault.OpenFault.TheVariants.{Memory, NoKey}
 use Rattle.luks_open.specs.Fault.{aborts_opening, is_untried}
+use Rattle.luks_open.specs.Reasons.{FaultWithoutArgon2}
 use Rattle.luks_open.specs.declared.fault.PassphraseFault.TheVariants.{TooLong, Read as PassphraseRead}
 use Rattle.luks_open.specs.declared.fault.PassphraseFault.TheVariants.{Memory as PassphraseMemory}
 use Rattle.luks_open.specs.declared.fault.VolumeFault.{VolumeFault}
@@ -26,7 +27,7 @@ use Rattle.luks_open.specs.declared.fault.OpenFault.TheVariants.{Disabled, Named
 use Rattle.luks_open.specs.declared.fault.OpenFault.TheVariants.{NothingTried}
 use Rattle.luks_report.specs.Faults.{message_for_volume}
 use Rattle.luks_runs.specs.Run.{aborts, is_run_read_failure}
-use Rattle.luks_runs.specs.VolumeOutcome.{OpeningMessage, ends_untried}
+use Rattle.luks_runs.specs.VolumeOutcome.{CommandOpeningMessage, MessageWithoutArgon2, OpeningMessage, ends_untried}
 use Rattle.luks_open.proofs.OpeningLemmas.{opening_within}
 
 pub slot_consumes_loaded : (secret : List ℕ) → ConsumesLoaded secret (slot_outcome secret)
@@ -90,3 +91,25 @@ aborted_untried (Passphrase PassphraseMemory) aborted = refl
 aborted_untried (Slots Memory) aborted = refl
 aborted_untried (Argon2Memory _ _) aborted = refl
 aborted_untried _ aborted = absurd cc
+
+-- the message names no reason of a program with Argon2 if the fault does not
+says_without_argon2 : (fault : VolumeFault) → FaultWithoutArgon2 fault → MessageWithoutArgon2 (message_for_volume fault)
+says_without_argon2 (HeaderNotRead NotLuks) is = tt
+says_without_argon2 (HeaderNotRead HeaderCut) is = tt
+says_without_argon2 (HeaderNotRead Json) is = tt
+says_without_argon2 (HeaderNotRead HeaderRead) is = tt
+says_without_argon2 (HeaderNotRead HeaderMemory) is = tt
+says_without_argon2 (Passphrase TooLong) is = tt
+says_without_argon2 (Passphrase PassphraseRead) is = tt
+says_without_argon2 (Passphrase PassphraseMemory) is = tt
+says_without_argon2 (Slots (NoSuchSlot _)) is = tt
+says_without_argon2 (Slots (Disabled _)) is = tt
+says_without_argon2 (Slots (NamedSkipped _ _)) is = is
+says_without_argon2 (Slots (NothingTried _)) is = is
+says_without_argon2 (Slots (NoKey _)) is = is
+says_without_argon2 (Slots Memory) is = tt
+says_without_argon2 _ is = tt
+
+-- a command that opens a volume may end with the message for such a fault
+pub command_says : (fault : VolumeFault) → FaultWithoutArgon2 fault → CommandOpeningMessage (message_for_volume fault)
+command_says fault is = ((message_says fault).opening, says_without_argon2 fault is)

@@ -3,6 +3,7 @@ use Rattle.std.specs.Prelude.{ℕ, ◌+◌, List, length, max, if◌then◌else�
 use Rattle.std.specs.Prelude.{◌<◌, ◌≤◌, ◌⊎◌, Bool, false, true, []}
 use Rattle.luks_header.specs.Header.{header_of}
 use Rattle.luks_format.specs.declared.segment.Segment.{Segment}
+use Rattle.luks_open.specs.Reasons.{NoneOfArgon2, is_of_argon2}
 use Rattle.luks_open.specs.declared.fault.VolumeFault.{VolumeFault}
 use Rattle.luks_report.specs.Faults.{message_at_end, message_for_volume}
 use Rattle.luks_open.specs.declared.allowed.AllowedSlots.{AllowedSlots}
@@ -35,6 +36,17 @@ OpeningMessage (NoKey _) = Unit {0}
 OpeningMessage OutOfMemory = Unit {0}
 OpeningMessage ReadFailed = Unit {0}
 OpeningMessage _ = ⊥
+
+-- the message names no reason to skip a key slot that only a program with Argon2 has
+abbrev pub MessageWithoutArgon2 : Message → Type 0
+MessageWithoutArgon2 (SlotSkipped slot reason) = is_of_argon2 reason ≡ false
+MessageWithoutArgon2 (NothingTried skipped) = NoneOfArgon2 skipped
+MessageWithoutArgon2 (NoKey skipped) = NoneOfArgon2 skipped
+MessageWithoutArgon2 _ = Unit {0}
+
+-- opening a volume without Argon2, as commands do, may end with this message
+abbrev pub CommandOpeningMessage : Message → Type 0
+CommandOpeningMessage message = OpeningMessage message × MessageWithoutArgon2 message
 
 -- a run may end with this message before it tries a key slot
 abbrev pub ends_untried : Message → Bool

@@ -7,7 +7,8 @@ ghost use Rattle.luks_report.specs.Faults.{message_for_volume};
 ghost use Rattle.luks_io.specs.Counts.{Reads, Writes};
 ghost use Rattle.luks_io.specs.Devices.{Appended, ConsumedExactly, IfKnown};
 ghost use Rattle.luks_open.specs.Allowed.{pbkdf2_alone};
-ghost use Rattle.luks_runs.specs.VolumeOutcome.{OpeningMessage};
+ghost use Rattle.luks_open.specs.Reasons.{FaultWithoutArgon2};
+ghost use Rattle.luks_runs.specs.VolumeOutcome.{CommandOpeningMessage};
 ghost use Rattle.luks_open.specs.Volume.{opened_of};
 ghost use Rattle.luks_runs.specs.VolumeOutcome.{slot_outcome, volume_outcome_by};
 ghost use Rattle.luks_open.specs.Volume.{volume_by};
@@ -84,6 +85,7 @@ fn unlock<I: Source, K: Source>(
         IfKnown (K.to_come secret.old) (λ passphrase.
         EndsLocked location (pbkdf2_alone slots) known passphrase (message_for_volume fault)
         (I.to_come image.new) (K.to_come secret.new)))) }
+    ensures without_argon2 { IfErr result FaultWithoutArgon2 }
     ensures unneeded { IfKnown (I.to_come image.old) (λ known.
         is_err (volume_by (reader_for location) (pbkdf2_alone slots) known) ≡ true
         → secret.new ≡ secret.old) }
@@ -141,7 +143,7 @@ pub(super) fn test_passphrase<I: Source, K: Source, O: Sink>(
     ensures unneeded { IfKnown (I.to_come image.old) (λ known.
         is_err (volume_by (reader_for location) (pbkdf2_alone slots) known) ≡ true
         → secret.new ≡ secret.old) }
-    ensures only { OpeningMessage (result_message result)
+    ensures only { CommandOpeningMessage (result_message result)
         ⊎ (result_message result ≡ Message.Done ⊎ result_message result ≡ Message.WriteFailed) }
     ensures reads_first { result_message result ≡ Message.ReadFailed → out.new ≡ out.old }
     ensures work { CountsOpening location (pbkdf2_alone slots) (result_message result)
@@ -196,7 +198,8 @@ pub(super) fn cat<H: Source, I: Source, K: Source, O: Sink>(
     out: &mut O,
     work: &mut Work,
 ) -> Result<(), Message>
-    ensures only { OpeningMessage (result_message result) ⊎ PayloadMessage (result_message result) }
+    ensures only { CommandOpeningMessage (result_message result)
+        ⊎ PayloadMessage (result_message result) }
     ensures run { RunsAsSpecified location (luks_cat (volume_request args.now))
         (result_message result)
         (record {

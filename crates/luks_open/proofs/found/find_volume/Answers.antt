@@ -1,5 +1,6 @@
 use Rattle.std.proofs.Common.{Err, ap, sym}
 use Rattle.luks_io.proofs.ErrorLemmas.{given_error}
+use Rattle.luks_open.proofs.ReasonLemmas.{unordered_without_argon2}
 use Rattle.luks_open.proofs.VolumeLemmas.{aborts_without_header, aborts_without_order, aborts_without_segment}
 use Rattle.luks_open.proofs.VolumeLemmas.{none_remain}
 use Rattle.luks_open.proofs.found.find_volume.Goals as goal
@@ -24,6 +25,19 @@ returns-in_err-order-clause-err g c =
     aborts_without_order c.args.location c.args.slots known _ c.in_ok-header.header read.0 read.2
     c.in_ok-segment.segment (sym c.in_ok-segment.ensures) _ c.in_err-order.ensures.answer
     (λ memory. c.in_err-order.ensures.memory (ap Err memory)))
+
+-- without limits for Argon2, the fault has no reason of a program with Argon2
+pub returns-in_err-header-clause-without_argon2 : goal.returns-in_err-header-clause-without_argon2
+returns-in_err-header-clause-without_argon2 g c = rw (given_error _ _ c.from_residual.ensures.1) (λ none. tt)
+
+pub returns-in_err-segment-clause-without_argon2 : goal.returns-in_err-segment-clause-without_argon2
+returns-in_err-segment-clause-without_argon2 g c =
+    rw (given_error _ _ c.from_residual-in_err-segment.ensures.1) (λ none. tt)
+
+pub returns-in_err-order-clause-without_argon2 : goal.returns-in_err-order-clause-without_argon2
+returns-in_err-order-clause-without_argon2 g c =
+    rw (given_error _ _ c.from_residual-in_err-order.ensures.1) (λ none.
+    unordered_without_argon2 c.in_ok-header.header c.args.slots none _ c.in_err-order.ensures.answer)
 
 pub returns-clause-found : goal.returns-clause-found
 returns-clause-found g c =

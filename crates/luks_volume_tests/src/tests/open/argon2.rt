@@ -146,9 +146,9 @@ static SKIPPED: [(u8, Option<(u32, u64)>, SkipReason); 6] = [
     (0, None, SkipReason::Argon2id),
     (1, None, SkipReason::Argon2i),
     (3, None, SkipReason::Argon2id),
-    (0, Some((31, 32)), SkipReason::Argon2MemoryLimit),
-    (1, Some((75, 224)), SkipReason::Argon2FillLimit),
-    (3, Some((0, 0)), SkipReason::Argon2MemoryLimit),
+    (0, Some((31, 32)), SkipReason::Argon2MemoryLimit(32)),
+    (1, Some((75, 224)), SkipReason::Argon2FillLimit(225)),
+    (3, Some((0, 0)), SkipReason::Argon2MemoryLimit(96)),
 ];
 
 #[test]

@@ -4,7 +4,7 @@ use Rattle.luks_io.proofs.ErrorLemmas.{given_error}
 use Rattle.luks_io.specs.Counts.{MemSourceModel}
 use Rattle.luks_request.specs.Request.{volume_request}
 use Rattle.luks_runs.proofs.RunLemmas.{never_failed}
-use Rattle.luks_runs.proofs.OutcomeLemmas.{message_says}
+use Rattle.luks_runs.proofs.OutcomeLemmas.{command_says, message_says}
 use Rattle.luks_runs.specs.Run.{is_run_read_failure, result_message}
 use Rattle.luks_open.specs.Allowed.{pbkdf2_alone}
 use Rattle.luks_runs.specs.VolumeOutcome.{payload_outcome}
@@ -39,7 +39,8 @@ returns-in_err-unlocked-clause-calls g c =
 
 pub returns-in_err-unlocked-clause-only : goal.returns-in_err-unlocked-clause-only
 returns-in_err-unlocked-clause-only g c =
-    rw (given_error _ _ c.from_residual.ensures.1) (inl (message_says c.in_err-unlocked.field-0.0).opening)
+    rw (given_error _ _ c.from_residual.ensures.1)
+    (inl (command_says c.in_err-unlocked.field-0.0 c.in_err-unlocked.ensures.without_argon2))
 
 pub returns-in_err-unlocked-clause-work : goal.returns-in_err-unlocked-clause-work
 returns-in_err-unlocked-clause-work g c = rw (given_error _ _ c.from_residual.ensures.1) c.in_err-unlocked.ensures.work

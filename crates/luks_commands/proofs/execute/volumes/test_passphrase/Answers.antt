@@ -1,7 +1,7 @@
 use Rattle.std.proofs.Common.{inl}
 use Rattle.luks_io.proofs.ErrorLemmas.{given_error}
 use Rattle.luks_runs.specs.VolumeOutcome.{slot_outcome}
-use Rattle.luks_runs.proofs.OutcomeLemmas.{message_says}
+use Rattle.luks_runs.proofs.OutcomeLemmas.{command_says, message_says}
 use Rattle.luks_runs.specs.Run.{AnyPromptness, ConsumedNothing, result_message}
 use Rattle.luks_commands.proofs.OpenedRuns.{no_write_unopened, runs_at, runs_slot, slot_message}
 use Rattle.luks_runs.proofs.OutcomeLemmas.{slot_consumes_loaded}
@@ -32,7 +32,8 @@ returns-clause-reads_first g c failed =
 
 pub returns-in_err-unlocked-clause-only : goal.returns-in_err-unlocked-clause-only
 returns-in_err-unlocked-clause-only g c =
-    rw (given_error _ _ c.from_residual.ensures.1) (inl (message_says c.in_err-unlocked.field-0.0).opening)
+    rw (given_error _ _ c.from_residual.ensures.1)
+    (inl (command_says c.in_err-unlocked.field-0.0 c.in_err-unlocked.ensures.without_argon2))
 
 pub returns-in_err-unlocked-clause-counts : goal.returns-in_err-unlocked-clause-counts
 returns-in_err-unlocked-clause-counts g c =

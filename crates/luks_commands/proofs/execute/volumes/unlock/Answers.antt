@@ -2,6 +2,7 @@ use Rattle.std.proofs.Common.{◌∙◌, ◌≤◌, Err, Ok, Some, subst, ap, ar
 use Rattle.luks_open.specs.declared.fault.VolumeFault.TheVariants.{Passphrase}
 use Rattle.luks_io.proofs.ErrorLemmas.{given_error}
 use Rattle.luks_open.proofs.OpeningLemmas.{counts_given}
+use Rattle.luks_open.proofs.ReasonLemmas.{tried_without_argon2}
 use Rattle.luks_runs.proofs.OutcomeLemmas.{message_says}
 use Rattle.luks_open.proofs.VolumeLemmas.{reads_on, there_is_volume}
 use Rattle.luks_open.specs.KeyFile.{max_key_file_len}
@@ -41,6 +42,10 @@ returns-in_err-volume-clause-work g c =
       refl,
     ))
 
+pub returns-in_err-volume-clause-without_argon2 : goal.returns-in_err-volume-clause-without_argon2
+returns-in_err-volume-clause-without_argon2 g c =
+    rw (given_error _ _ c.from_residual.ensures.1) (c.in_err-volume.ensures.without_argon2 (rw c.pbkdf2_alone.ensures refl))
+
 pub returns-in_err-volume-clause-counts : goal.returns-in_err-volume-clause-counts
 returns-in_err-volume-clause-counts g c =
     rw (given_error _ _ c.from_residual.ensures.1) (reads_of_image c.in_err-volume.ensures.reads.1)
@@ -69,6 +74,9 @@ returns-in_err-passphrase-clause-unneeded g c known is none =
     absurd (there_is_volume c.args.location _ _ _ _ _ _ known
     (rw c.pbkdf2_alone.ensures at c.in_ok-volume.ensures.found) is none)
 
+pub returns-in_err-passphrase-clause-without_argon2 : goal.returns-in_err-passphrase-clause-without_argon2
+returns-in_err-passphrase-clause-without_argon2 g c = rw (given_error _ _ c.from_residual-in_err-passphrase.ensures.1) tt
+
 pub returns-in_err-passphrase-clause-counts : goal.returns-in_err-passphrase-clause-counts
 returns-in_err-passphrase-clause-counts g c =
     rw (given_error _ _ c.from_residual-in_err-passphrase.ensures.1) (record {
@@ -96,6 +104,17 @@ pub returns-in_err-opened-clause-unneeded : goal.returns-in_err-opened-clause-un
 returns-in_err-opened-clause-unneeded g c known is none =
     absurd (there_is_volume c.args.location _ _ _ _ _ _ known
     (rw c.pbkdf2_alone.ensures at c.in_ok-volume.ensures.found) is none)
+
+pub returns-in_err-opened-clause-without_argon2 : goal.returns-in_err-opened-clause-without_argon2
+returns-in_err-opened-clause-without_argon2 g c =
+    let slots = rw c.pbkdf2_alone.ensures at c.in_ok-volume.ensures.found.slots in
+    let pbkdf2 = All-IsPbkdf2 c.in_ok-volume.volume.header (pbkdf2_alone c.args.slots).named
+    (pbkdf2_alone c.args.slots).limits c.in_ok-volume.volume.order slots.order c.in_ok-volume.volume.segment
+    slots.segment refl in
+    rw (given_error _ _ c.from_residual-in_err-opened.ensures.1)
+    (tried_without_argon2 (pbkdf2_alone c.args.slots) c.in_ok-volume.volume slots refl _ _ c.in_err-opened.field-0.0 _
+    (λ slot memory refused. never_stops _ _ _ _ _ _ pbkdf2 refused.stops) c.in_err-opened.ensures.refused
+    c.in_err-opened.ensures.tries)
 
 pub returns-in_err-opened-clause-counts : goal.returns-in_err-opened-clause-counts
 returns-in_err-opened-clause-counts g c =
