@@ -5,6 +5,7 @@
  *   FAILING_UNIT    a read without O_DIRECT loses whole units of so many bytes, as the page cache does
  *   FAILING_ERROR   the number of the error, EIO if there is none
  *   FAILING_WHOLE   a read fails as a whole, also if its first bytes could be read
+ *   FAILING_MOST    a read of that file, and each write, is of so many bytes at most
  *   FAILING_WRITES  writes of any file at this offset and after it fail, as on a full disk
  */
 #define _GNU_SOURCE
@@ -48,6 +49,13 @@ static uint64_t first_bad(int descriptor, uint64_t start, uint64_t end)
     return found;
 }
 
+static size_t most(size_t count)
+{
+    const char *name = getenv("FAILING_MOST");
+
+    return name && strtoull(name, NULL, 0) < count ? strtoull(name, NULL, 0) : count;
+}
+
 /* How many bytes of a read may be given; -1 if it fails. */
 static ssize_t allowed(int descriptor, uint64_t offset, size_t length)
 {
@@ -56,6 +64,7 @@ static ssize_t allowed(int descriptor, uint64_t offset, size_t length)
 
     if (!is_file(descriptor))
         return length;
+    length = most(length);
     bad = first_bad(descriptor, offset, offset + length);
     if (bad == offset + length || (bad > offset && !getenv("FAILING_WHOLE")))
         return bad - offset;
@@ -100,6 +109,21 @@ ssize_t read(int descriptor, void *buffer, size_t count)
     return length < 0 ? -1 : real(descriptor, buffer, length);
 }
 
+/* (how luksrd-rescue reads key files and candidates) */
+ssize_t readv(int descriptor, const struct iovec *parts, int count)
+{
+    ssize_t (*real)(int, const struct iovec *, int) = dlsym(RTLD_NEXT, "readv");
+
+    return count == 1 ? read(descriptor, parts->iov_base, parts->iov_len) : real(descriptor, parts, count);
+}
+
+ssize_t write(int descriptor, const void *buffer, size_t count)
+{
+    ssize_t (*real)(int, const void *, size_t) = dlsym(RTLD_NEXT, "write");
+
+    return real(descriptor, buffer, most(count));
+}
+
 ssize_t pwrite64(int descriptor, const void *buffer, size_t count, off64_t offset)
 {
     ssize_t (*real)(int, const void *, size_t, off64_t) = dlsym(RTLD_NEXT, "pwrite64");
@@ -109,5 +133,5 @@ ssize_t pwrite64(int descriptor, const void *buffer, size_t count, off64_t offse
         errno = ENOSPC;
         return -1;
     }
-    return real(descriptor, buffer, count, offset);
+    return real(descriptor, buffer, most(count), offset);
 }

@@ -21,7 +21,7 @@ COMMAND = TOP / "rescue/luksrd-rescue"
 CHANGED = """
 import sys
 sys.path.insert(0, sys.argv.pop(1))
-from luksrd_rescue import audit, command, decrypt, serve, terminal, tools, trying, unlocking, working
+from luksrd_rescue import audit, candidates, command, decrypt, serve, terminal, tools, trying, unlocking, working
 {}
 sys.exit(command.main(sys.argv[1:]))
 """
@@ -129,6 +129,24 @@ class Terminal:
         os.kill(self.process.pid, number)
         return self
 
+
+
+def memory_of(process):
+    """What is in the memory of a process."""
+    found = []
+    folder = f"/proc/{process}"
+    with open(f"{folder}/maps", encoding="utf-8") as maps, open(f"{folder}/mem", "rb", buffering=0) as memory:
+        for line in maps:
+            words = line.split()
+            start, end = (int(word, 16) for word in words[0].split("-"))
+            if "r" not in words[1] or line.rstrip().endswith(("[vvar]", "[vsyscall]")):
+                continue
+            memory.seek(start)
+            try:
+                found.append(memory.read(end - start))
+            except OSError:
+                continue
+    return b"".join(found)
 
 
 def make_failing_reads(path):

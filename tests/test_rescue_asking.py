@@ -7,7 +7,7 @@ from pathlib import Path
 import pytest
 import volumes
 from kinds import VOLUME2
-from rescuing import Terminal, says
+from rescuing import Terminal, memory_of, says
 from support import needs, processes_of, wait_until
 from volumes import PASS, PASS2, WRONG
 
@@ -129,24 +129,6 @@ def has_something(descriptor):
         return os.read(descriptor, 65536)
     except BlockingIOError:
         return b""
-
-
-def memory_of(process):
-    """What is in the memory of a process."""
-    found = []
-    folder = f"/proc/{process}"
-    with open(f"{folder}/maps", encoding="utf-8") as maps, open(f"{folder}/mem", "rb", buffering=0) as memory:
-        for line in maps:
-            words = line.split()
-            start, end = (int(word, 16) for word in words[0].split("-"))
-            if "r" not in words[1] or line.rstrip().endswith(("[vvar]", "[vsyscall]")):
-                continue
-            memory.seek(start)
-            try:
-                found.append(memory.read(end - start))
-            except OSError:
-                continue
-    return b"".join(found)
 
 
 @pytest.fixture

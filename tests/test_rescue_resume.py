@@ -12,7 +12,7 @@ import pytest
 import volumes
 from luksrd_rescue import terminal
 from rescuing import Terminal, says
-from support import needs, shown, wait_until
+from support import PATIENCE, needs, shown, wait_until
 
 LENGTH = 160 << 20
 PIECE = 1 << 20
@@ -303,6 +303,16 @@ def test_progress(rescue, large):
     ended = rescue.changed("terminal._SECONDS = 0")(*COMMAND)
     lines = [line for line in ended.message.splitlines() if line.endswith(" left")]
     assert len(lines) > 2 and re.fullmatch(r"luksrd-rescue: 160 MiB of 160 MiB \(100 %\), .*iB/s, 0 s left", lines[-1])
+
+
+def test_terminal_that_is_closed(rescue, large, plain):
+    """A run that need not end with its terminal goes on without it."""
+    ignoring = ["sh", "-c", "trap '' HUP; exec \"$@\"", "sh"]
+    with Terminal(rescue, *COMMAND, before=ignoring, stdout=subprocess.DEVNULL) as terminal:
+        terminal.until(rb"\d+%")
+        os.dup2(os.open("/dev/null", os.O_RDWR), terminal.main)
+        assert terminal.process.wait(PATIENCE) == 0
+    assert same(rescue.folder / "plain", plain)
 
 
 def test_progress_without_a_terminal(monkeypatch, capfd):

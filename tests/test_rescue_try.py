@@ -11,7 +11,8 @@ import pytest
 import volumes
 from disks import LUKS, MIB, disk, row
 from kinds import VOLUME1, VOLUME2
-from support import FULL, needs, run, wait_until
+from rescuing import memory_of
+from support import needs, run, wait_until
 from volumes import PASS, PASS2, by_qemu, copy_of, cryptsetup
 
 # passphrases that a program could misread
@@ -202,17 +203,40 @@ def test_candidates_that_cannot_be_opened(tries, file, message):
 
 
 def test_candidates_that_cannot_be_read(tries):
-    """A file, and a pipe or what else has no length."""
     ended = tries(lines="/proc/self/mem")
-    assert ended == (4, b"", "luksrd-rescue: /proc/self/mem: read failed: Input/output error\n")
+    assert ended == (6, b"", "luksrd-rescue: /proc/self/mem: read failed: Input/output error\n")
 
 
-def test_an_output_that_fails(tries, tmp_path):
-    """The state still has the lines that are done."""
-    ended = tries("--state", "state", stdout=FULL)
-    assert (ended.status, ended.message) == (
-        6, "luksrd-rescue: standard output: write failed: No space left on device; line 4 opens key slot 0\n")
-    assert state_of(tmp_path / "state") <= 3
+def test_candidates_from_an_offset_on(tries, tmp_path):
+    """What another program has read of standard input is not tried, and is no line."""
+    with open(tmp_path / "lines", "rb", buffering=0) as file:
+        assert file.read(7) == b"first\n\n"
+        opens(tries(lines="-", stdin=file), 2)
+
+
+SECRETS = [f"candidate {number}, which is nowhere else in memory".encode() for number in range(4)]
+STOP = "import sys; stop = lambda *_: [print('stopped', flush=True), sys.stdin.read()][2:]"
+AT_THE_END = "trying._next_lines = stop"
+
+
+@pytest.mark.parametrize("lines, there, wiped", [
+    (["terminal.Progress.advance = stop"], {3}, {0}),
+    ([AT_THE_END], set(), {0, 1, 2, 3}),
+    ([AT_THE_END, "candidates.PIECE = 7"], set(), {0, 1, 2, 3}),
+    ([AT_THE_END, "terminal.wipe = lambda _: None"], {2}, set())],
+    ids=["after the first line", "at the end", "read by a few bytes", "not wiped"])
+def test_candidates_are_overwritten(rescue, disk2, tmp_path, lines, there, wiped):
+    """A line that was tried is not in memory any more, and in the end none is: not the third one either, which opens."""
+    (tmp_path / "key").write_bytes(SECRETS[2])
+    cryptsetup("luksAddKey --pbkdf pbkdf2 --pbkdf-force-iterations 1000 --key-file pass", disk2, "key", cwd=tmp_path)
+    (tmp_path / "list").write_bytes(b"\r\n".join(SECRETS))
+    run = rescue.changed(STOP, *lines).start("try", "disk.img", "--candidates", "list", "--jobs", "1", "--quiet",
+                                             stdin=subprocess.PIPE)
+    assert run.stdout.readline() == b"stopped\n", run.communicate()
+    memory = memory_of(run.pid)
+    found = {number for number, secret in enumerate(SECRETS) if secret in memory}
+    assert found >= there and not found & wiped
+    assert b"line 3 opens key slot 2" in run.communicate(b"")[0] and run.returncode == 0
 
 
 @pytest.fixture

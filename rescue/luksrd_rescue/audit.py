@@ -266,15 +266,12 @@ def at(image, offset: int = 0, length: Optional[int] = None) -> Optional[Found]:
     return Found(headers[0], offset) if headers else None
 
 
-def of_file(path: str) -> Found:
-    """The header in a file of its own, which may be a pipe."""
-    try:
-        with open(path, "rb", buffering=0) as file:
-            lines = _lines_for(lambda view, _: file.readinto(view), HEADER_BYTES)
-    except OSError as error:
-        raise Refusal(4, path, f"cannot open: {error.strerror}") from None
+def apart(image) -> Found:
+    """The header in a file of its own."""
+    lines = _lines_for(image.pread_into, min(HEADER_BYTES, image.size))
     if not lines or "error" in lines[0]:
-        raise Refusal(4, path, lines[0]["error"] if lines else "luksrd-audit says nothing of it")
+        raise Refusal(4, image.path,
+                      lines[0]["error"] if lines else "luksrd-audit says nothing of it")
     return Found(lines[0], 0, True)
 
 

@@ -5,6 +5,7 @@ from typing import NamedTuple, Optional
 
 from . import audit, containers, image_maps, partitions, terminal
 from .command import Refusal, number, shown, sized
+from .image import open_image
 from .words import quoted
 
 
@@ -80,7 +81,7 @@ def find_volumes(image, partition: Optional[int] = None, offset: Optional[int] =
 
     On a disk without a partition table headers are searched for, which reads all of it, with
     progress."""
-    facts = audit.of_file(header) if header is not None else None
+    facts = _header_in(header) if header is not None else None
     if partition is not None:
         if offset is not None or length is not None:
             raise Refusal(1, "--partition", "does not go with --offset and --length")
@@ -98,6 +99,12 @@ def find_volumes(image, partition: Optional[int] = None, offset: Optional[int] =
         return [volume for volume in found if volume.facts]
     with terminal.Progress(image.size, "B", is_quiet) as progress:
         return searched(image, audit.search(image, progress).headers)
+
+
+def _header_in(path: str) -> audit.Found:
+    """The header in this file, with zeros for what of it is lost."""
+    with open_image(path) as file:
+        return audit.apart(file.patched())
 
 
 def searched(image, headers: list[audit.Found]) -> list[Volume]:

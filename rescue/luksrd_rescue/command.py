@@ -7,10 +7,11 @@ import contextlib
 import importlib
 import os
 import re
+import select
 import signal
 import sys
 import traceback
-from typing import Callable, Iterator, NoReturn, Optional, Sequence
+from typing import IO, Callable, Iterator, NoReturn, Optional, Sequence
 
 from . import __version__
 
@@ -52,13 +53,36 @@ def _escaped(letter: str) -> str:
     return "".join(f"\\x{byte:02x}" for byte in letter.encode("utf-8", "surrogateescape"))
 
 
+def write_all(descriptor: int, view: memoryview) -> None:
+    """Writes all of it, past the buffers of Python, which tries to write at its end what they still
+    have, and then has a status and words of its own."""
+    while view:
+        try:
+            view = view[os.write(descriptor, view):]
+        except BlockingIOError:
+            # (whoever made the pipe wants writes that do not wait)
+            select.select([], [descriptor], [])
+
+
+def _print(descriptor: int, text: str) -> None:
+    write_all(descriptor, memoryview(text.encode(sys.getfilesystemencoding(), "backslashreplace")))
+
+
 def say(what: object, why: str) -> None:
     """Prints a message on standard error; one that cannot be printed changes nothing."""
     parts = [PROGRAM, shown(what), why] if what != "" else [PROGRAM, why]
+    with contextlib.suppress(OSError):
+        _print(2, ": ".join(parts) + "\n")
+
+
+def tell(*lines: str, besides: str = "") -> None:
+    """Prints lines on standard output. If they cannot be written, as when the reader of a pipe has
+    ended, the refusal also says what `besides` does."""
     try:
-        print(*parts, sep=": ", file=sys.stderr, flush=True)
-    except OSError:
-        pass
+        _print(1, "".join(f"{line}\n" for line in lines))
+    except OSError as error:
+        why = f"write failed: {error.strerror}"
+        raise Refusal(FAILED, "standard output", f"{why}; {besides}" if besides else why) from error
 
 
 def number(word: str) -> int:
@@ -97,8 +121,13 @@ class _Parser(argparse.ArgumentParser):
         how.setdefault("formatter_class", argparse.RawDescriptionHelpFormatter)
         super().__init__(*arguments, **how)  # type: ignore[arg-type]
 
+    def _print_message(self, message: str, file: Optional[IO[str]] = None) -> None:
+        """Prints help or the version, which is all that this is called for."""
+        tell(message.rstrip("\n"))
+
     def error(self, message: str) -> NoReturn:
-        self.print_usage(sys.stderr)
+        with contextlib.suppress(OSError):
+            _print(2, self.format_usage())
         say("", f"{shown(message)}; {self.prog} --help explains")
         self.exit(USAGE)
 
@@ -134,25 +163,18 @@ def _parser(words: Sequence[str]) -> argparse.ArgumentParser:
 
 
 def _prepare_streams() -> None:
-    """Descriptors 0 to 2 are open, so that no file gets their number, and names that are not UTF-8
-    can be printed."""
+    """Descriptors 0 to 2 are open, so that no file gets their number."""
     for descriptor in range(3):
         try:
             os.fstat(descriptor)
         except OSError:
             # (for reading alone, so that what is written there fails)
             os.open(os.devnull, os.O_RDONLY)
-    for name in "stdout", "stderr":
-        if getattr(sys, name) is None:
-            setattr(sys, name, open({"stdout": 1, "stderr": 2}[name], "w", closefd=False))
-        getattr(sys, name).reconfigure(errors="backslashreplace")
 
 
 def _run(words: Sequence[str]) -> int:
     arguments = _parser(words).parse_args(words)
-    status = arguments.run(arguments)
-    sys.stdout.flush()
-    return status
+    return arguments.run(arguments)
 
 
 @contextlib.contextmanager
@@ -167,13 +189,6 @@ def _interruptible() -> Iterator[None]:
     finally:
         if not is_ignored:
             signal.signal(signal.SIGINT, signal.SIG_DFL)
-
-
-def _unwritable() -> int:
-    """What is left in the buffer of standard output cannot be written."""
-    say("standard output", "write failed")
-    os.dup2(os.open(os.devnull, os.O_WRONLY), 1)
-    return FAILED
 
 
 def _unexpected(error: BaseException) -> int:
@@ -192,8 +207,6 @@ def _status_of(error: Exception) -> int:
     if isinstance(error, MemoryError):
         say("", "out of memory")
         return MEMORY
-    if isinstance(error, BrokenPipeError):
-        return _unwritable()
     if isinstance(error, OSError):
         say(error.filename or "", error.strerror or str(error))
         return FAILED

@@ -10,7 +10,7 @@ from typing import NamedTuple, Optional
 
 from . import choosing, maps, resuming, terminal, unlocking, working
 from .command import (FAILED, IMAGE, INTERRUPTED, USAGE, Refusal, number, say, shown, sized,
-                      subcommand)
+                      subcommand, tell)
 from .image import Image, Loaded, open_image
 from .words import quoted
 from .writing import Kept, Output, Target
@@ -234,12 +234,14 @@ def _report(arguments: argparse.Namespace, volume: choosing.Volume, begun: _Begu
     if bad:
         say(arguments.output, f"{sized(bad)} of {sized(begun.length)} are missing"
             f"{_again(arguments, begun)}")
-    if arguments.output != "-":
-        _describe(arguments, begun)
     if not bad and begun.map_path is not None and arguments.map is None and arguments.retry is None:
         with contextlib.suppress(OSError):
             os.unlink(begun.map_path)
-    return FAILED if bad else IMAGE if missing else 0
+    status = FAILED if bad else IMAGE if missing else 0
+    if arguments.output != "-":
+        how = "written" if status else "complete"
+        tell(*_description(arguments, begun), besides=f"{shown(arguments.output)} is {how}")
+    return status
 
 
 def _again(arguments: argparse.Namespace, begun: _Begun) -> str:
@@ -266,16 +268,18 @@ def _missing(arguments: argparse.Namespace, volume: choosing.Volume, begun: _Beg
     return ""
 
 
-def _describe(arguments: argparse.Namespace, begun: _Begun) -> None:
-    """What the plaintext is, and the next command."""
+def _description(arguments: argparse.Namespace, begun: _Begun) -> list[str]:
+    """What the plaintext is, and the next command, in lines."""
     from . import contents  # (which is loaded only when it is needed)
     slot = begun.payload.volume.key_slot
     by = "the volume key" if slot is None else f"key slot {slot}"
-    print(f"{shown(arguments.output)}: {sized(begun.length)}, opened by {by}")
+    first = f"{shown(arguments.output)}: {sized(begun.length)}, opened by {by}"
     try:
         with open_image(arguments.output) as written:
             found = contents.identify(written, arguments.output)
-        for line in contents.lines(found, f"luksrd-rescue decrypt {choosing.again(arguments)}"):
-            print(line)
+        again = f"luksrd-rescue decrypt {choosing.again(arguments)}"
+        return [first, *contents.lines(found, again)]
     except (Refusal, OSError, ValueError, LookupError) as error:
-        say(arguments.output, f"what it is was not found out: {getattr(error, 'why', error)}")
+        why = f"{error.what}: {error.why}" if isinstance(error, Refusal) else error
+        say(arguments.output, f"what it is was not found out: {why}")
+        return [first]

@@ -6,7 +6,7 @@ import os
 from typing import Any, NamedTuple, Optional
 
 from . import audit, choosing, contents, image_maps, partitions, terminal, tools
-from .command import FAILED, IMAGE, Refusal, say, shown, sized
+from .command import FAILED, IMAGE, Refusal, say, shown, sized, tell
 from .containers import Container, container
 from .image import open_image
 from .words import quoted
@@ -92,14 +92,14 @@ def run(arguments: argparse.Namespace) -> int:
                 report = gather(Reader(image), arguments.search, arguments.json)
         except Refusal as refusal:
             if arguments.json:
-                print(json.dumps({"file": path, "error": refusal.why.splitlines()[0]}), flush=True)
+                tell(json.dumps({"file": path, "error": refusal.why.splitlines()[0]}))
             say(refusal.what, refusal.why)
             status = max(status, refusal.status)
             continue
         if arguments.json:
-            print(json.dumps(as_json(report)), flush=True)
+            tell(json.dumps(as_json(report)))
         else:
-            print("\n" * bool(number) + "\n".join(as_text(report)), flush=True)
+            tell(*[""] * bool(number), *as_text(report))
         status = max(status, 0 if report.volumes else IMAGE)
     return status
 

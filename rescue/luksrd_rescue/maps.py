@@ -9,7 +9,7 @@ import bisect
 import contextlib
 import os
 import re
-from typing import Iterator, NamedTuple
+from typing import BinaryIO, Iterator, NamedTuple
 
 from .command import FAILED, IMAGE, Refusal
 
@@ -173,12 +173,19 @@ def _check(blocks: list[Block]) -> None:
         _wrong(last.status)
 
 
+def _read(file: BinaryIO, path: str) -> bytes:
+    try:
+        return file.read(_LONGEST)
+    except OSError as error:
+        raise Refusal(FAILED, path, f"cannot read the map: {error.strerror}") from error
+
+
 def load(path: str) -> Map:
     """The map in a file of ddrescue or of luksrd-rescue. What lies between its blocks was not
     tried."""
     try:
         with open(path, "rb") as file:
-            text = file.read(_LONGEST)
+            text = _read(file, path)
     except OSError as error:
         raise Refusal(IMAGE, path, f"cannot open the map: {error.strerror}") from error
     try:

@@ -7,6 +7,8 @@ import os
 import stat
 from typing import Iterator, Optional
 
+# The folder in which the kernel describes devices
+SYSTEM = "/sys"
 # A regular file by its device and inode, or a block device by its number
 _Thing = tuple[str, int, int]
 
@@ -43,7 +45,7 @@ def _directly_below(thing: _Thing, with_disk: bool) -> Iterator[_Thing]:
     """What a device has its bytes in; for a partition that is its disk."""
     if thing[0] != "device":
         return
-    folder = os.path.realpath(f"/sys/dev/block/{thing[1]}:{thing[2]}")
+    folder = os.path.realpath(f"{SYSTEM}/dev/block/{thing[1]}:{thing[2]}")
     backing = _read(f"{folder}/loop/backing_file")
     if backing is not None:
         try:

@@ -15,7 +15,7 @@ import time
 from typing import Iterator, NamedTuple, Optional
 
 from . import choosing, contents, terminal, tools, unlocking
-from .command import FAILED, USAGE, Refusal, say, subcommand
+from .command import FAILED, USAGE, Refusal, say, subcommand, tell
 from .image import open_image
 from .words import quoted
 
@@ -74,8 +74,7 @@ def run(arguments: argparse.Namespace) -> int:
         terminal.wipe(passphrase)
         server.wait_until_there()
         plain = os.path.join(arguments.folder, FILE)
-        for line in _lines(plain, opened, arguments, server.is_for_root):
-            print(line, flush=True)
+        tell(*_lines(plain, opened, arguments, server.is_for_root))
         return server.wait()
 
 

@@ -13,7 +13,7 @@ import time
 from types import FrameType
 from typing import Callable, Iterator, Optional, TypeVar
 
-from .command import IMAGE, USAGE, Refusal, say, sized
+from .command import FAILED, IMAGE, USAGE, Refusal, say, sized
 
 Answer = TypeVar("Answer")
 
@@ -165,7 +165,8 @@ def read_key_file(name: str) -> bytearray:
     try:
         got = _read_all(descriptor, secret)
     except OSError as error:
-        raise Refusal(IMAGE, name, f"cannot read the key file: {error.strerror}") from error
+        status = IMAGE if isinstance(error, IsADirectoryError) else FAILED
+        raise Refusal(status, name, f"cannot read the key file: {error.strerror}") from error
     finally:
         os.close(descriptor)
     # (the rest are zeros, so that this leaves no copy)
@@ -303,7 +304,25 @@ def _bar(total: int, unit: str) -> Optional[object]:
     tqdm.tqdm.monitor_interval = 0
     is_bytes = unit == "B"
     return tqdm.tqdm(total=total, unit="B" if is_bytes else f" {unit}", unit_scale=is_bytes,
-                     unit_divisor=1024, file=sys.stderr, leave=False, dynamic_ncols=True)
+                     unit_divisor=1024, file=_Screen(), leave=False, dynamic_ncols=True)
+
+
+class _Screen:
+    """The terminal as tqdm writes to it. A bar that cannot be shown, since the terminal was closed,
+    changes nothing."""
+
+    encoding = sys.getfilesystemencoding()
+
+    def write(self, text: str) -> None:
+        """Shows this."""
+        _draw(text)
+
+    def flush(self) -> None:
+        """It has been shown."""
+
+    def fileno(self) -> int:
+        """By which tqdm asks how wide it is."""
+        return 2
 
 
 def _clock(seconds: float) -> str:

@@ -129,7 +129,8 @@ class _Attempt:
             raise self._no_header()
         if head.is_lost(0, facts.header_length):
             used = "" if facts.version == 1 else f"; the {facts.raw.get('header')} header is used"
-            say(self._image.path, f"sectors of the header cannot be read{used}")
+            place = self._arguments.header or self._image.path
+            say(place, f"sectors of the header cannot be read{used}")
         if facts.fault:
             raise Refusal(USAGE, self._image.path,
                           f"luksrd does not read this volume: {facts.fault}")

@@ -5,12 +5,11 @@ from __future__ import annotations
 import contextlib
 import errno
 import os
-import select
 import stat
 from typing import Iterator, NamedTuple, Optional, Protocol
 
 from . import related
-from .command import FAILED, USAGE, Refusal, say, shown, sized
+from .command import FAILED, USAGE, Refusal, say, shown, sized, write_all
 
 # What is a hole in a file, if it is all zeros: the blocks of most file systems
 BLOCK = 4096
@@ -127,12 +126,7 @@ class PipeOutput:
 
     def write(self, view: memoryview, _: int) -> None:
         """Writes all of it."""
-        while view:
-            try:
-                view = view[os.write(1, view):]
-            except BlockingIOError:
-                # (whoever made the pipe wants writes that do not wait)
-                select.select([], [1], [])
+        write_all(1, view)
 
     def flush(self) -> None:
         """Nothing can be done for a pipe, and a file that the shell opened is not ours to sync."""
@@ -266,6 +260,7 @@ class Target:
                               f"file of {length}: it is another file, or was changed")
         except BaseException:
             os.close(descriptor)
+            self.remove()
             raise
         return FileOutput(self.path, descriptor, is_new)
 
