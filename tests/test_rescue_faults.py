@@ -10,7 +10,7 @@ import pytest
 import volumes
 from kinds import ESSIV, START, VOLUME1, VOLUME2
 from rescuing import blocks_by_ddrescuelog, disk_by_nbdfuse, merged, says, with_zeros
-from support import must, namespace, needs, shown
+from support import FULL, must, namespace, needs, shown
 from volumes import copy_of, metadata
 
 pytestmark = needs("cc")
@@ -131,11 +131,18 @@ def test_ranges_past_bad_sectors(rescue, volume, kinds, bad_sectors):
 
 
 def test_pipe_past_bad_sectors(rescue, volume, kinds, bad_sectors):
+    """Also if the messages cannot be printed; and a full standard output is said besides."""
     image, plain = volume(VOLUME1), kinds.text(VOLUME1)
-    ended = rescue(*DECRYPT, "-o", "-", "--map", "map", env=bad_sectors(image, [(START + 1024, 512)]))
-    says(ended, status=6)
-    assert ended.output == with_zeros(plain, [(1024, 512)])
-    assert lost_in_map(rescue.folder / "map") == [(1024, 512)]
+    env = bad_sectors(image, [(START + 1024, 512)])
+    for how in {}, {"stderr": FULL}:
+        ended = rescue(*DECRYPT, "-o", "-", "--map", "map", "--force", env=env, **how)
+        says(ended, status=6)
+        assert ended.output == with_zeros(plain, [(1024, 512)])
+        assert lost_in_map(rescue.folder / "map") == [(1024, 512)]
+    ended = rescue(*DECRYPT, "-o", "plain", env=env, stdout=FULL)
+    says(ended, "plain: 512 bytes of 293 KiB are missing; --retry plain.map tries them again\n",
+         "standard output: write failed: No space left on device; plain is written\n", status=6)
+    assert (rescue.folder / "plain").read_bytes() == with_zeros(plain, [(1024, 512)])
 
 
 def test_retry(rescue, volume, kinds, bad_sectors):
@@ -359,18 +366,108 @@ def test_gap_in_memory_is_not_decrypted_noise(rescue, made2, bad_sectors, tmp_pa
     assert lost_in_map(tmp_path / "plain.map") == lost
 
 
+# Calls on one file, by strace
+
+READS, RENAMES = "preadv,preadv2", "rename,renameat,renameat2"
+INPUTS = {"disk.img": "", "header": "", "disk.map": " the map", "pass": " the key file", "list": ""}
+WITH_ALL = "decrypt disk.img --header header --image-map disk.map --key-file pass"
+
+
+@pytest.fixture
+def tampered(rescue, volume, tmp_path):
+    """tampered(CALLS, FILE, HOW, LINE): a run in which the calls on a file are tampered with. (`when` counts those of
+    each thread for itself.)"""
+    image = volume(VOLUME2)
+    (tmp_path / "header").write_bytes(image.read_bytes()[:START])
+    (tmp_path / "disk.map").write_text(f"0 + 1\n0 {image.stat().st_size} +\n")
+    (tmp_path / "list").write_bytes(b"wrong\n\na passphrase\n")
+
+    def ends(calls, file, how, line, **further):
+        ended = rescue(*line.split(), **further, before=[
+            "strace", "-f", "-qq", "-o", "trace", "-P", file, "-P", tmp_path / file, "-e", f"trace={calls}", "-e",
+            f"inject={calls}:{how}"])
+        assert "INJECTED" in (tmp_path / "trace").read_text(errors="replace"), ended
+        return ended._replace(message=re.sub("^strace: .*\n", "", ended.message, flags=re.MULTILINE))
+
+    return ends
+
+
+@needs("strace")
+@pytest.mark.parametrize("calls, file, how", [
+    *((READS, file, f"error={error}:when={when}") for file in ("disk.img", "header")
+      for error, when in (("EINTR", "1+2"), ("EIO", 1), ("EIO", 2))),
+    ("readv", "pass", "error=EINTR:when=1+2"), ("read", "disk.map", "error=EINTR:when=1+2"),
+    *((call, "plain", "error=EINTR:when=1+2") for call in ("pwrite64", "fsync,fdatasync")),
+    *(("write", file, "error=EINTR:when=1+2") for file in ("plain.map.new", "out"))])
+def test_calls_that_are_repeated(tampered, kinds, tmp_path, calls, file, how):
+    """An interrupted call, and a read that fails once: all of the plaintext is written."""
+    (tmp_path / "out").touch()
+    output = "-" if file == "out" else "plain"
+    says(tampered(calls, file, how, f"{WITH_ALL} -o {output}", stdout=tmp_path / "out"), status=0)
+    written = tmp_path / ("out" if file == "out" else "plain")
+    assert shown(written.read_bytes()) == shown(kinds.text(VOLUME2)) and not (tmp_path / "plain.map").exists()
+
+
+KEPT = "; what is written is kept, and --resume goes on with it by plain.map"
+
+
+@needs("strace")
+@pytest.mark.parametrize("calls, file, how, message, status, is_kept", [
+    *(("openat", file, "EACCES", f"{file}: cannot open{what}: Permission denied", 4, False)
+      for file, what in INPUTS.items()),
+    ("openat", "plain", "EACCES", "plain: cannot write to it: Permission denied", 6, False),
+    ("readv", "pass", "EIO", "pass: cannot read the key file: Input/output error", 6, False),
+    ("readv", "list", "EIO", "list: read failed: Input/output error", 6, False),
+    ("readv", "list", "EIO:when=2+", "list: read failed: Input/output error", 6, False),
+    ("readv", "list", "EIO:when=3+", "list: read failed after line 0: Input/output error", 6, False),
+    ("read", "disk.map", "EIO", "disk.map: cannot read the map: Input/output error", 6, False),
+    (READS, "disk.img", "EIO", "disk.img: 303104 bytes at", 6, True),
+    ("ftruncate", "plain", "ENOSPC", "plain: cannot write to it: No space left on device", 6, False),
+    ("pwrite64", "plain", "ENOSPC", f"plain: write failed: No space left on device{KEPT}", 6, True),
+    ("fdatasync", "plain", "EIO", f"plain: write failed: Input/output error{KEPT}", 6, True),
+    ("fsync", "plain", "EIO", f"plain: write failed: Input/output error{KEPT}", 6, True),
+    ("write", "plain.map.new", "ENOSPC", "plain.map: cannot write the map: No space left on device", 6, False),
+    ("fsync", "plain.map.new", "EIO", "plain.map: cannot write the map: Input/output error", 6, False),
+    (RENAMES, "plain.map.new", "EIO", "plain.map: cannot write the map: Input/output error", 6, False)])
+def test_calls_that_fail(rescue, tampered, kinds, tmp_path, calls, file, how, message, status, is_kept):
+    """The system's reason. Without a fault the same command then gives all of the plaintext."""
+    line = "try disk.img --candidates list" if file == "list" else f"{WITH_ALL} -o plain"
+    says(tampered(calls, file, f"error={how}", line), f"luksrd-rescue: {message}", status=status)
+    assert ((tmp_path / "plain").exists(), (tmp_path / "plain.map").exists()) == (is_kept, is_kept)
+    again = ["--retry", "plain.map"] if calls == READS else ["--resume"]
+    says(rescue(*f"{WITH_ALL} -o plain".split(), *again * is_kept), status=0)
+    assert shown((tmp_path / "plain").read_bytes()) == shown(kinds.text(VOLUME2))
+
+
+@pytest.mark.parametrize("file, most", [("disk.img", 700), ("disk.img", 4096), ("header", 511), ("pass", 5),
+                                        ("disk.map", 9), ("list", 7)])
+def test_short_reads_and_writes(rescue, tampered, kinds, bad_sectors, tmp_path, file, most):
+    """Each read of the file gives little, and each write takes little."""
+    env = bad_sectors(tmp_path / file, [], most=most)
+    if file == "list":
+        ended = rescue("try", "disk.img", "--candidates", "list", env=env)
+        assert ended.output.startswith(b"line 3 opens key slot 0\n"), ended
+    for output in "plain", "-":
+        ended = rescue(*WITH_ALL.split(), "-o", output, env=env)
+        says(ended, status=0)
+        written = ended.output if output == "-" else (tmp_path / output).read_bytes()
+        assert shown(written) == shown(kinds.text(VOLUME2))
+
+
 # Writes
 
-def test_write_that_fails(rescue, volume, kinds, bad_sectors):
-    """The system's reason; output and map stay, and --resume goes on."""
-    image, plain = volume(VOLUME2), kinds.text(VOLUME2)
-    command = [*DECRYPT, "-o", "plain"]
-    ended = rescue(*command, env=bad_sectors(image, [], writes=100000))
-    says(ended, "plain: write failed: No space left on device", "--resume goes on", status=6)
-    assert (rescue.folder / "plain").exists() and (rescue.folder / "plain.map").exists()
-    says(rescue(*command), "there is such a file", status=1)
-    says(rescue(*command, "--resume"), status=0)
-    assert (rescue.folder / "plain").read_bytes() == plain and not (rescue.folder / "plain.map").exists()
+def test_map_that_fails_later(rescue, volume, kinds):
+    """What is written by then is kept."""
+    volume(VOLUME2)
+    fails = ["from luksrd_rescue import maps; save, saved = maps.Map.save, []",
+             "def fails(self, path):",
+             "    if saved: raise OSError(28, 'No space left on device')",
+             "    save(self, path), saved.append(path)",
+             "maps.Map.save = fails"]
+    ended = rescue.changed(*fails)(*DECRYPT, "-o", "plain")
+    says(ended, f"plain.map: cannot write the map: No space left on device{KEPT}\n", status=6)
+    says(rescue(*DECRYPT, "-o", "plain", "--resume"), status=0)
+    assert (rescue.folder / "plain").read_bytes() == kinds.text(VOLUME2)
 
 
 def test_file_that_may_not_be_so_long(rescue, volume):
@@ -378,7 +475,8 @@ def test_file_that_may_not_be_so_long(rescue, volume):
     volume(VOLUME2)
     ended = rescue(*DECRYPT, "-o", "plain",
                    preexec_fn=lambda: resource.setrlimit(resource.RLIMIT_FSIZE, (4096, 4096)))
-    says(ended, "File too large", status=6)
+    says(ended, "plain: cannot write to it: File too large", status=6)
+    assert not (rescue.folder / "plain").exists()
 
 
 @needs("mount")

@@ -11,7 +11,7 @@ import pytest
 from disks import LUKS, MIB, disk, row
 from kinds import ESSIV, KINDS, VOLUME1, VOLUME2, volume_key_options
 from rescuing import Terminal, says
-from support import must, needs, processes_of, run, wait_until
+from support import FULL, must, needs, processes_of, run, wait_until
 from volumes import PASS, copy_of
 
 pytestmark = needs("nbdkit", "nbdfuse", "fusermount3", "fuse")
@@ -169,12 +169,32 @@ def test_in_use(serve, kinds):
         assert served.process.wait(300) == 0
 
 
-def test_what_is_printed(serve, rescue, kinds, tmp_path):
-    """What is in it, and what to type next."""
+ROOT = ("Root cannot read plain/plain, since FUSE shows it to you alone. To mount it, serve it as root, or first add the "
+        "line user_allow_other to {}.")
+
+
+@pytest.mark.parametrize("config, is_said", [(None, False), ("absent", True), ("# user_allow_other\n", True),
+                                             (" user_allow_other\n", False)])
+def test_what_is_printed(serve, rescue, kinds, tmp_path, config, is_said):
+    """What is in it, and what to type next; to a user who is not root also whether root can read it."""
+    if config not in (None, "absent"):
+        (tmp_path / "fuse.conf").write_text(config)
+    if config is not None:
+        user = rescue.changed("import os; os.geteuid = lambda: 1000", f"serve.FUSE_CONFIG = '{tmp_path}/fuse.conf'")
+        rescue.command = user.command
     with serve(kinds / VOLUME1, "--key-file", kinds / "pass2") as served:
         said = served.said()
     assert "plain/plain is nothing that blkid knows" in said
+    assert (ROOT.format(tmp_path / "fuse.conf") in said) == is_said == ("Root cannot" in said)
     assert "Ctrl-C here, or umount plain elsewhere, ends it.\n" in said
+
+
+def test_standard_output_that_cannot_be_written(rescue, filter, kinds, tmp_path):
+    """It ends, and nothing stays."""
+    ended = rescue("serve", kinds / VOLUME1, "plain", "--key-file", kinds / "pass2", "--quiet", stdout=FULL,
+                   env={"LUKSRD_FILTER": str(filter)})
+    assert ended == (6, b"", "luksrd-rescue: standard output: write failed: No space left on device\n")
+    assert not (tmp_path / "plain").exists()
 
 
 # ---- the passphrase
@@ -211,10 +231,12 @@ def test_where_the_passphrase_goes(serve, kinds, tmp_path):
 @pytest.mark.of_script
 @pytest.mark.parametrize("missing, package, words", [
     ("nbdkit", "nbdkit", ["serve", "plain"]), ("nbdfuse", "libnbd-bin", ["serve", "plain"]),
-    ("fusermount3", "fuse3", ["serve", "plain"]), ("partx", "util-linux", ["look"]), ("blkid", "util-linux", ["look"])])
+    ("fusermount3", "fuse3", ["serve", "plain"]), ("partx", "util-linux", ["look"]), ("blkid", "util-linux", ["look"]),
+    ("luksrd-audit", "luksrd-audit", ["look"])])
 def test_a_missing_program(rescue, kinds, tmp_path, missing, package, words):
-    ended = rescue.changed("found = tools.found", f"tools.found = lambda it: None if it == {missing!r} else found(it)")(
-        words[0], kinds / VOLUME1, *words[1:])
+    ended = rescue.changed("found, tools.TREE = tools.found, None",
+                           f"tools.found = lambda it: None if it == {missing!r} else found(it)")(
+        words[0], kinds / VOLUME1, *words[1:], env={"LUKSRD_AUDIT": ""})
     assert ended == (1, b"", f"luksrd-rescue: {missing}: is not installed: run apt-get install {package}\n")
     assert not (tmp_path / "plain").exists()
 
@@ -249,6 +271,24 @@ def test_a_folder_that_is_served(serve, rescue, kinds):
         ended = rescue("serve", kinds / VOLUME1, "plain", "--key-file", kinds / "pass2")
         assert ended == (1, b"", "luksrd-rescue: plain: something is mounted there: umount plain\n")
         assert served.path.read_bytes() == kinds.text(VOLUME1)
+
+
+@pytest.mark.of_script
+def test_no_fuse(rescue, filter, kinds):
+    ended = rescue.changed("import os; real = os.access",
+                           "os.access = lambda path, how: path != '/dev/fuse' and real(path, how)")(
+        "serve", kinds / VOLUME1, "plain", env={"LUKSRD_FILTER": str(filter)})
+    assert ended == (1, b"", "luksrd-rescue: /dev/fuse: cannot be used here: as root, run modprobe fuse\n")
+
+
+def test_a_server_that_fails(rescue, filter, kinds, tmp_path):
+    """What it has said by then, and its status."""
+    (tmp_path / "nbdfuse").write_text("#!/bin/sh\n: > plain/plain\nsleep 1\necho the disk is gone >&2\nexit 3\n")
+    (tmp_path / "nbdfuse").chmod(0o755)
+    ended = rescue("serve", kinds / VOLUME1, "plain", "--key-file", kinds / "pass2", "--quiet",
+                   env={"LUKSRD_FILTER": str(filter), "PATH": f"{tmp_path}:{os.environ['PATH']}"})
+    says(ended, "nbdfuse: ended with status 3: the disk is gone\n", status=6)
+    assert b"ends it." in ended.output
 
 
 def test_a_server_that_does_not_begin(rescue, kinds, tmp_path):
