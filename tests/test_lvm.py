@@ -10,6 +10,7 @@ import zlib
 
 import pytest
 import volumes
+from rescuing import says
 from support import TOP, must
 from volumes import copy_of, overwrite
 
@@ -155,12 +156,89 @@ def test_pieces():
     assert got == wanted
 
 
-@pytest.mark.parametrize("options, message, status", [
-    (["--lv", "vg/root"], "there is no physical volume of LVM2", 1)])
-def test_no_lvm_in_the_volume(rescue, kinds, options, message, status):
-    ended = rescue("decrypt", kinds / "luks1 xts-plain64 512", "--key-file", kinds / "pass2", "--quiet",
-                   "-o", "out.img", *options)
-    assert (ended.status, message in ended.message) == (status, True), ended
+IDENTIFIER = "abcdefghijklmnopqrstuvwxyz012345"
+# What LVM2 writes of a thin volume, of its pool, and of a striped one, for which it needs a device mapper
+SEGMENT = {
+    "linear": 'type = "striped" stripe_count = 1 stripes = ["pv0", 0]',
+    "far": 'type = "striped" stripe_count = 1 stripes = ["pv1", 0]',
+    "striped": 'type = "striped" stripe_count = 2 stripe_size = 128 stripes = ["pv0", 0, "pv1", 0]',
+    "thin": 'type = "thin" thin_pool = "pool" transaction_id = 0 device_id = 1',
+    "pool": 'type = "thin-pool" metadata = "pool_tmeta" pool = "pool_tdata" transaction_id = 1 chunk_size = 128',
+    "mirror": 'type = "raid1" device_count = 2 region_size = 1024 raids = ["a", "b", "c", "d"]',
+    "cut": 'type = "striped" stripe_count = 1 stripes = ["pv0", 999]',
+    "none": None}
+UNSUPPORTED = {"far": FAR, "striped": STRIPED, "thin": "its type is thin", "pool": "its type is thin-pool",
+               "mirror": "its type is raid1", "cut": "it ends after the physical volume", "none": "it has no segments"}
+VOLUME = """ {name} {{ id = "x" status = ["READ", "WRITE", "VISIBLE"] flags = [] segment_count = {count}
+  segment1 {{ start_extent = 0 extent_count = 2 {segment} }} }}
+"""
+TEXT = ('vg0 {{ id = "x" seqno = 1 extent_size = 8\nphysical_volumes {{ pv0 {{ id = "{id}" pe_start = 128 }} '
+        'pv1 {{ id = "other" pe_start = 128 }} }}\nlogical_volumes {{\n{volumes}}} }}\ncontents = "Text" # ..\n')
+
+
+def with_area(physical, area):
+    """The physical volume with this metadata area, and its checksum."""
+    struct.pack_into("<I", area, 0, checksum(area[4:512]))
+    physical[AREA:AREA + len(area)] = area
+    return physical
+
+
+def made_by_hand(data_areas=((AREA + 65536, 0),), areas=((AREA, 32768),), text_at=512, text_bytes=None):
+    """A physical volume as LVM2 lays one out (label.h, format_text/layout.h), with all of these volumes."""
+    listed = "".join(VOLUME.format(name=name, count=int(segment is not None), segment=segment or "")
+                     for name, segment in SEGMENT.items())
+    text = TEXT.format(id=IDENTIFIER, volumes=listed).encode() + b"\0"
+    label = bytearray(512)
+    struct.pack_into("<8sQII8s32sQ", label, 0, b"LABELONE", 1, 0, 32, b"LVM2 001", IDENTIFIER.encode(), MIB)
+    rows = [*data_areas, (0, 0), *areas, (0, 0)]
+    for number, row in enumerate(rows[:(512 - 72) // 16]):
+        struct.pack_into("<QQ", label, 72 + 16 * number, *row)
+    struct.pack_into("<I", label, 16, checksum(label[20:]))
+    area = bytearray(32768)
+    struct.pack_into("<I16sIQQQQII", area, 0, 0, b" LVM2 x[5A%r0N*>", 1, AREA, len(area), text_at,
+                     len(text) if text_bytes is None else text_bytes, checksum(text), 0)
+    area[512:512 + len(text)] = text
+    physical = bytearray(MIB)
+    physical[512:1024] = label
+    return with_area(physical, area)
+
+
+@pytest.mark.parametrize("how, message", [
+    ({"areas": ()}, "this physical volume has no metadata: LVM2 keeps it in another one"),
+    ({"data_areas": [(MIB, 0)] * 40}, "LVM2's label is damaged"),
+    ({"areas": [(AREA, 32768)] * 40}, "LVM2's label is damaged"),
+    ({"areas": [(AREA, 16384)]}, "LVM2's metadata area is damaged"),
+    *(({"text_at": at}, "LVM2's metadata area has no text") for at in (0, 511, 32768)),
+    *(({"text_bytes": count}, "LVM2's metadata area has no text") for count in (0, 32768 - 511)),
+    ({"text_bytes": 100}, DAMAGED)])
+def test_what_is_refused(tmp_path, how, message):
+    (tmp_path / "physical").write_bytes(made_by_hand(**how))
+    assert refused(tmp_path / "physical") == message
+
+
+def test_volumes_that_are_not_supported(rescue, tmp_path):
+    """By name: without LVM2, also those for which its tools need a device mapper."""
+    physical = made_by_hand()
+    (tmp_path / "physical").write_bytes(physical)
+    piece = physical[128 * 512:128 * 512 + 8192]
+    assert found_in(tmp_path / "physical") == {
+        "vg0/linear": [(128 * 512, 8192)], **{f"vg0/{name}": words for name, words in UNSUPPORTED.items()}}
+    volumes.luks1(tmp_path / "disk.img", "aes-xts-plain64", "sha256", 512)
+    volumes.fill1(tmp_path / "disk.img", bytes(physical))
+    words = ["decrypt", "disk.img", "--key-file", "pass", "-o", "plain", "--lv"]
+    for name, why in UNSUPPORTED.items():
+        says(rescue(*words, name), f"luksrd-rescue: disk.img: vg0/{name} is not supported: {why}\n", status=1)
+    listed = ", ".join(f"vg0/{name}" for name in sorted(SEGMENT))
+    says(rescue(*words, "other"), f"disk.img: there is no logical volume 'other'; there are: {listed}\n", status=1)
+    assert not (tmp_path / "plain").exists()
+    says(rescue(*words, "linear"), status=0)
+    assert (tmp_path / "plain").read_bytes() == piece
+
+
+def test_no_lvm_in_the_volume(rescue, disk2, tmp_path):
+    says(rescue("decrypt", disk2, "--key-file", "pass", "--lv", "root", "-o", "plain"),
+         "disk.img: there is no physical volume of LVM2", status=1)
+    assert not (tmp_path / "plain").exists()
 
 
 # ---- over loop devices
@@ -182,16 +260,6 @@ class TestGroup:
     @pytest.mark.parametrize("name", ["vg/root", "root", "/dev/vg/root"])
     def test_names(self, group, name):
         assert luksrd_lvm.find(Plain(group.first), name).pieces == group.places["first"]["vg/root"]
-
-    @pytest.mark.parametrize("name, message", [
-        ("vg/striped", f"vg/striped is not supported: {STRIPED}"),
-        ("far", f"vg/far is not supported: {FAR}"),
-        ("vg/none", "there is no logical volume 'vg/none'; there are: vg/both, vg/far, vg/root, "
-                    "vg/striped, vg/swap.1-x, vg/two")])
-    def test_one_that_is_not_there(self, group, name, message):
-        with pytest.raises(luksrd_lvm.Refused) as info:
-            luksrd_lvm.find(Plain(group.first), name)
-        assert str(info.value) == message
 
     @pytest.mark.parametrize("at", [512, 536, 552, 612, AREA, AREA + 4, AREA + 24, AREA + 40, "text"])
     def test_damaged_byte(self, group, tmp_path, at):
@@ -235,22 +303,30 @@ class TestGroup:
         assert refused(image) == TRUNCATED
 
     def test_decrypted_alone(self, rescue, group, tmp_path):
-        """Each of one or of several pieces, out of a LUKS volume; others are refused by name."""
+        """Each of one or of several pieces, and a part of one, out of a LUKS volume; others are refused by name."""
         physical = bytearray(group.first.read_bytes())
         for name, pieces in group.places["first"].items():
             for offset, length in pieces:
                 physical[offset:offset + length] = os.urandom(length)
         volumes.luks1(tmp_path / "disk.img", "aes-xts-plain64", "sha256", 512)
         volumes.fill1(tmp_path / "disk.img", bytes(physical))
+        words = ["decrypt", "disk.img", "--key-file", "pass", "--quiet", "-o", "out", "--force"]
         for name, pieces in group.places["first"].items():
-            out = f"{name[3:]}.img"
-            ended = rescue("decrypt", "disk.img", "--key-file", "pass", "--quiet", "--lv", name, "-o", out)
-            assert ended.status == 0, ended
             wanted = b"".join(physical[offset:offset + length] for offset, length in pieces)
-            assert (tmp_path / out).read_bytes() == wanted
-        ended = rescue("decrypt", "disk.img", "--key-file", "pass", "--quiet", "--lv", "striped", "-o", "no")
-        assert (ended.status, STRIPED in ended.message) == (1, True), ended
-        assert not (tmp_path / "no").exists()
+            says(rescue(*words, "--lv", name), status=0)
+            assert (tmp_path / "out").read_bytes() == wanted
+            # (over the end of a piece, if there are several)
+            first = pieces[0][1] - 100
+            says(rescue(*words, "--lv", name, "--range", f"{first}:100"), status=0)
+            assert (tmp_path / "out").read_bytes() == wanted[first:first + 100]
+            if len(pieces) > 1:
+                says(rescue(*words, "--lv", name, "--range", f"{first}:1000"), status=0)
+                assert (tmp_path / "out").read_bytes() == wanted[first:first + 1000]
+        for given, name, why in ("vg/striped", "striped", STRIPED), ("far", "far", FAR), ("both", "both", FAR):
+            says(rescue(*words, "--lv", given), f": vg/{name} is not supported: {why}\n", status=1)
+        ended = rescue(*words)
+        says(ended, status=0)
+        assert b"out is LVM:" in ended.output and all(name.encode() in ended.output for name in group.places["first"])
 
 
 def checksum(content):

@@ -5,9 +5,9 @@ import random
 
 import pytest
 import volumes
-from kinds import BY_VOLUME_KEY, KINDS, START, VOLUME1, VOLUME2, volume_key_options
+from kinds import BY_VOLUME_KEY, KINDS, VOLUME1, VOLUME2, volume_key_options
 from rescuing import says
-from support import alone, must, needs, shown
+from support import must, shown
 
 
 # (the beginning of a volume up to its payload, or to less: as a backup of a header is)
@@ -63,13 +63,6 @@ def test_ranges(rescue, kinds, kind):
         assert shown((rescue.folder / f"part{number}").read_bytes()) == shown(wanted[start:start + length])
 
 
-def test_range_that_is_not_there(rescue, disk2):
-    size = len(disk2.read_bytes()) - START
-    ended = rescue("decrypt", disk2, "--key-file", "pass", "-o", "plain", "--range", f"{size}:1")
-    says(ended, f"--range: ends at {size + 1}, and there are {size} bytes", status=1)
-    assert not (rescue.folder / "plain").exists()
-
-
 # (the command has no options for the others)
 HERE = [row for row in BY_VOLUME_KEY if not row[2].keys() & {"iv_offset", "size", "max_iterations", "header"}]
 
@@ -110,8 +103,6 @@ def test_key_slots_in_order(rescue, disk2):
     volumes.cryptsetup("config --priority ignore --key-slot 0", disk2)
     says(rescue("decrypt", disk2, "--key-file", "pass", "-o", "plain2"), "(not tried: 0)", status=2)
     says(rescue("decrypt", disk2, "--key-file", "pass", "--key-slot", "0", "-o", "plain2"), status=0)
-    says(rescue("decrypt", disk2, "--key-file", "pass", "--key-slot", "7", "-o", "x"), "key slot 7 is not in use",
-         status=1)
 
 
 def test_partition(rescue, kinds, tmp_path):
@@ -128,8 +119,6 @@ def test_partition(rescue, kinds, tmp_path):
         # (without a length a volume ends with the disk)
         assert plain[:len(kinds.text(VOLUME2))] == kinds.text(VOLUME2)
         assert len(plain) == len(kinds.text(VOLUME2)) or number == 3
-    says(rescue("decrypt", disk, "--key-file", "pass", "--partition", "2", "-o", "x"), "no LUKS header", status=4)
-    says(rescue("decrypt", disk, "--key-file", "pass", "--partition", "9", "-o", "x"), "no partition 9", status=1)
     with open(disk, "r+b") as file:
         file.truncate((1 << 20) + len(content) - 8192)
     ended = rescue("decrypt", disk, "--key-file", "pass", "--partition", "1", "-o", "short")
@@ -188,70 +177,61 @@ def test_memory_of_a_long_run(rescue, disk1):
     assert int((rescue.folder / "memory").read_text()) < 150 << 10
 
 
-# Logical volumes
+# ---- refusals
 
-SETUP = """pvcreate -q --metadatasize 32k --dataalignment 4k FIRST SECOND
-vgcreate -q -s 1M --setautoactivation n vg0 FIRST SECOND
-lvcreate -q -an -Zn -Wn -n root -l 4 vg0 FIRST
-lvcreate -q -an -Zn -Wn -n home -l 3 vg0 FIRST
-lvextend -q -l +2 vg0/root FIRST
-lvcreate -q -an -Zn -Wn -n far -l 2 vg0 SECOND
-lvcreate -q -an -Zn -Wn -n striped -l 2 vg0 -i 2"""
+NO_HEADER = "there is no LUKS header here; if there is a backup of it, name it by --header"
+NOT_FOUND = "the library of luksrd is not found, or too old: install libluksrd2, or name its file by LUKSRD_LIBRARY ("
+of_script = pytest.mark.of_script
 
 
-@pytest.fixture
-def physical(loop, cached):
-    """A volume of LUKS2 with a physical volume of LVM2, its plaintext, and where in that the pieces of
-    `root` are, by lvs."""
-    def make(folder):
-        folder.mkdir()
-        for name in "first", "second":
-            (folder / name).write_bytes(random.Random(name).randbytes(16 << 20))
-        devices = [loop(folder / name) for name in ("first", "second")]
-        config = (f'devices {{ filter = ["a|^{devices[0]}$|", "a|^{devices[1]}$|", "r|.*|"] use_devicesfile = 0 '
-                  'data_alignment_detection = 0 default_data_alignment = 0 } '
-                  f'global {{ use_lvmpolld = 0 locking_dir = "{folder}" }} '
-                  'activation { udev_sync = 0 udev_rules = 0 } backup { backup = 0 archive = 0 }')
-
-        def lvm(line):
-            command, *words = line.replace("FIRST", devices[0]).replace("SECOND", devices[1]).split()
-            return must("lvm", command, "--driverloaded", "n", "--config", config, *words).decode()
-
-        for line in SETUP.splitlines():
-            lvm(line)
-        start = int(lvm(f"pvs --noheadings --units b --nosuffix -o pe_start {devices[0]}"))
-        extents = [int(row.split()[0]) for row in lvm("lvs --noheadings --segments -o seg_pe_ranges vg0/root").replace(
-            f"{devices[0]}:", "").replace("-", " ").splitlines()]
-        assert len(extents) == 2
-        must("sync")
-        (folder / "starts").write_text(" ".join(str(start + (extent << 20)) for extent in extents))
-        volumes.luks2(folder / "disk.img", (folder / "first").read_bytes(), "aes-xts-plain64", 512, "--sector-size",
-                      "4096")
-
-    return cached("physical volumes", make)
-
-
-@alone
-@needs("loop", "lvm", "partx")
-def test_logical_volumes(rescue, physical, tmp_path):
-    """Linear pieces are joined; others are refused by name."""
-    plain = (physical / "first").read_bytes()
-    first, second = map(int, (physical / "starts").read_text().split())
-    root = plain[first:first + (4 << 20)] + plain[second:second + (2 << 20)]
-    words = ["decrypt", physical / "disk.img", "--key-file", physical / "pass"]
-    for number, name in enumerate(("vg0/root", "root")):
-        says(rescue(*words, "--lv", name, "-o", f"root{number}"), status=0)
-        assert shown((tmp_path / f"root{number}").read_bytes()) == shown(root)
-    says(rescue(*words, "--lv", "root", "--range", f"{(4 << 20) - 100}:1000", "-o", "part"), status=0)
-    assert (tmp_path / "part").read_bytes() == root[(4 << 20) - 100:(4 << 20) + 900]
-    for name in "vg0/striped", "vg0/far", "vg0/none":
-        says(rescue(*words, "--lv", name, "-o", "other"), name, status=1)
-    assert not (tmp_path / "other").exists()
-    ended = rescue(*words, "-o", "plain")
-    says(ended, status=0)
-    assert b"vg0/root" in ended.output and b"LVM" in ended.output
+@pytest.mark.parametrize("line, change, message, status", [
+    pytest.param("disk.img --partition 1", "", "disk.img: there is no partition table: choose the volume by --offset", 1,
+                 marks=of_script),
+    pytest.param("table.img --partition 9", "", "table.img: there is no partition 9, only 1, 2", 1, marks=of_script),
+    pytest.param("table.img --partition 1 --offset 0", "", "--partition: does not go with --offset and --length", 1,
+                 marks=of_script),
+    pytest.param("disk.img --offset 1G", "", "disk.img: --offset 1000000000 is not in it: it has 2400256 bytes", 1,
+                 marks=of_script),
+    pytest.param("disk.img --payload-offset 1", "", "--payload-offset: goes with --volume-key-file alone", 1,
+                 marks=of_script),
+    pytest.param("disk.img --volume-key-file pass --key-slot 1", "", "--key-slot: does not go with --volume-key-file", 1,
+                 marks=of_script),
+    ("table.img --partition 2", "", f"table.img: {NO_HEADER}\n", 4),
+    ("table.img --offset 0", "", f"table.img: {NO_HEADER}\n", 4),
+    ("table.img --header disk.img", "", "table.img: it has partitions, and --header does not say of which one: add "
+     "--partition with one of 1, 2", 1),
+    ("table.img --offset 0 --volume-key-file pass", "", "table.img: there is no header to say where the payload begins: "
+     "add --payload-offset (often 16Mi in LUKS2, 2Mi in LUKS1), and --cipher and --sector-size if they differ", 1),
+    ("disk.img --volume-key-file pass", "", "pass: ", 1),
+    ("disk.img --header pass", "", "pass: no LUKS header", 4),
+    ("disk.img --header disk.img", "os.environ['LUKSRD_AUDIT'] = '/bin/true'",
+     "disk.img: luksrd-audit says nothing of it", 4),
+    ("disk.img --key-slot 7", "", "disk.img: key slot 7 is not in use; in use: 0, 1", 1),
+    ("disk.img --range 303104:1", "", "--range: ends at 303105, and there are 303104 bytes", 1),
+    ("integrity.img", "", "integrity.img: luksrd does not read this volume: it has integrity protection: cryptsetup "
+     "opens it", 1),
+    ("disk.img", "os.environ['LUKSRD_LIBRARY'] = '/nowhere'", NOT_FOUND, 1),
+    ("disk.img", "unlocking.Unlocked = lambda *_: bytes(1 << 62)", "out of memory\n", 3),
+    ("disk.img", "unlocking.Unlocked = lambda *_: {}['x']", "this is a bug: KeyError at <string>:", 6)])
+def test_refusals(rescue, kinds, disk2, tmp_path, line, change, message, status):
+    """Nothing is written."""
+    content = disk2.read_bytes()
+    (tmp_path / "table.img").write_bytes(bytes(1 << 20) + content + bytes(4 << 20))
+    must("sfdisk", "-q", "table.img", stdin=f"label: gpt\nstart=2048, size={len(content) // 512}\nsize=2048\n".encode(),
+         cwd=tmp_path)
+    volumes.copy_of(disk2, tmp_path / "integrity.img")
+    volumes.edit_segment(tmp_path / "integrity.img", integrity={
+        "type": "hmac(sha256)", "journal_encryption": "none", "journal_integrity": "none"})
+    key = [] if "--volume-key-file" in line else ["--key-file", "pass"]
+    ended = rescue.changed("import os", change)("decrypt", *line.split(), *key, "-o", "plain")
+    says(ended, f"luksrd-rescue: {message}", status=status)
+    assert ended.output == b"" and not (tmp_path / "plain").exists()
 
 
-def test_no_logical_volumes(rescue, disk2):
-    says(rescue("decrypt", disk2, "--key-file", "pass", "--lv", "root", "-o", "plain"), "LVM2", status=1)
-    assert not (rescue.folder / "plain").exists()
+def test_contents_that_are_not_found_out(rescue, disk1, kinds):
+    """All is decrypted, and the status says so."""
+    ended = rescue.changed("found = tools.found", "tools.found = lambda it: None if it == 'blkid' else found(it)")(
+        "decrypt", disk1, "--key-file", "pass", "-o", "plain")
+    says(ended, "plain: what it is was not found out: blkid: is not installed: run apt-get install util-linux\n", status=0)
+    assert (rescue.folder / "plain").read_bytes() == kinds.text(VOLUME1)
+    assert ended.output == b"plain: 293 KiB, opened by key slot 0\n"
