@@ -189,7 +189,7 @@ def made_by_hand(data_areas=((AREA + 65536, 0),), areas=((AREA, 32768),), text_a
                      for name, segment in SEGMENT.items())
     text = TEXT.format(id=IDENTIFIER, volumes=listed).encode() + b"\0"
     label = bytearray(512)
-    struct.pack_into("<8sQII8s32sQ", label, 0, b"LABELONE", 1, 0, 32, b"LVM2 001", IDENTIFIER.encode(), MIB)
+    struct.pack_into("<8sQII8s32sQ", label, 0, b"LABELONE", 1, 0, 32, b"LVM2 001", IDENTIFIER.encode(), 2 * MIB)
     rows = [*data_areas, (0, 0), *areas, (0, 0)]
     for number, row in enumerate(rows[:(512 - 72) // 16]):
         struct.pack_into("<QQ", label, 72 + 16 * number, *row)
@@ -198,7 +198,8 @@ def made_by_hand(data_areas=((AREA + 65536, 0),), areas=((AREA, 32768),), text_a
     struct.pack_into("<I16sIQQQQII", area, 0, 0, b" LVM2 x[5A%r0N*>", 1, AREA, len(area), text_at,
                      len(text) if text_bytes is None else text_bytes, checksum(text), 0)
     area[512:512 + len(text)] = text
-    physical = bytearray(MIB)
+    # (in less, blkid looks for no LVM)
+    physical = bytearray(2 * MIB)
     physical[512:1024] = label
     return with_area(physical, area)
 
@@ -216,7 +217,8 @@ def test_what_is_refused(tmp_path, how, message):
     assert refused(tmp_path / "physical") == message
 
 
-def test_volumes_that_are_not_supported(rescue, tmp_path):
+@pytest.mark.needs("cc")
+def test_volumes_that_are_not_supported(rescue, bad_sectors, tmp_path):
     """By name: without LVM2, also those for which its tools need a device mapper."""
     physical = made_by_hand()
     (tmp_path / "physical").write_bytes(physical)
@@ -233,6 +235,14 @@ def test_volumes_that_are_not_supported(rescue, tmp_path):
     assert not (tmp_path / "plain").exists()
     says(rescue(*words, "linear"), status=0)
     assert (tmp_path / "plain").read_bytes() == piece
+    says(rescue(*words, "linear", "--force", env=bad_sectors(tmp_path / "disk.img", [
+        (volumes.payload_start(tmp_path / "disk.img"), 512)])), "disk.img: LVM's metadata, in the first bytes of the "
+        "plaintext, cannot be read: Input/output error\n", status=6)
+    for content, line in (physical, "  vg0/thin: not supported: its type is thin"), (
+            made_by_hand(text_bytes=100), f"plain is LVM, but {DAMAGED}"):
+        volumes.fill1(tmp_path / "disk.img", bytes(content))
+        ended = rescue(*words[:-1], "--force")
+        assert ended.status == 0 and line in ended.output.decode().splitlines(), ended
 
 
 def test_no_lvm_in_the_volume(rescue, disk2, tmp_path):

@@ -5,9 +5,10 @@ import random
 
 import pytest
 import volumes
+from disks import raid
 from kinds import BY_VOLUME_KEY, KINDS, VOLUME1, VOLUME2, volume_key_options
 from rescuing import says
-from support import must, shown
+from support import must, needs, shown
 
 
 # (the beginning of a volume up to its payload, or to less: as a backup of a header is)
@@ -204,15 +205,22 @@ of_script = pytest.mark.of_script
      "add --payload-offset (often 16Mi in LUKS2, 2Mi in LUKS1), and --cipher and --sector-size if they differ", 1),
     ("disk.img --volume-key-file pass", "", "pass: ", 1),
     ("disk.img --header pass", "", "pass: no LUKS header", 4),
-    ("disk.img --header disk.img", "os.environ['LUKSRD_AUDIT'] = '/bin/true'",
-     "disk.img: luksrd-audit says nothing of it", 4),
+    pytest.param("disk.img --header disk.img", "os.environ['LUKSRD_AUDIT'] = '/bin/true'",
+                 "disk.img: luksrd-audit says nothing of it", 4, marks=of_script),
     ("disk.img --key-slot 7", "", "disk.img: key slot 7 is not in use; in use: 0, 1", 1),
     ("disk.img --range 303104:1", "", "--range: ends at 303105, and there are 303104 bytes", 1),
     ("integrity.img", "", "integrity.img: luksrd does not read this volume: it has integrity protection: cryptsetup "
      "opens it", 1),
     ("disk.img", "os.environ['LUKSRD_LIBRARY'] = '/nowhere'", NOT_FOUND, 1),
     ("disk.img", "unlocking.Unlocked = lambda *_: bytes(1 << 62)", "out of memory\n", 3),
-    ("disk.img", "unlocking.Unlocked = lambda *_: {}['x']", "this is a bug: KeyError at <string>:", 6)])
+    ("disk.img", "unlocking.Unlocked = lambda *_: {}['x']", "this is a bug: KeyError at <string>:", 6),
+    ("disk.img", "unlocking.Unlocked = lambda *_: open('/nowhere')", "/nowhere: No such file or directory\n", 6),
+    ("hash.img --key-slot 1", "", "hash.img: key slot 1 cannot be opened: luksrd does not know its hash function\n", 1),
+    ("try integrity.img --candidates pass", "", "integrity.img: cannot be decrypted: it has integrity protection: "
+     "cryptsetup opens it\n", 1),
+    ("try disk.img --candidates pass --state .", "", ".: cannot open: Is a directory\n", 4),
+    ("try disk.img --candidates pass", "trying.luksrd.open = lambda *_, **__: {}['x']",
+     "this is a bug: KeyError at <string>:", 6)])
 def test_refusals(rescue, kinds, disk2, tmp_path, line, change, message, status):
     """Nothing is written."""
     content = disk2.read_bytes()
@@ -222,10 +230,48 @@ def test_refusals(rescue, kinds, disk2, tmp_path, line, change, message, status)
     volumes.copy_of(disk2, tmp_path / "integrity.img")
     volumes.edit_segment(tmp_path / "integrity.img", integrity={
         "type": "hmac(sha256)", "journal_encryption": "none", "journal_integrity": "none"})
+    volumes.edit_metadata(volumes.copy_of(disk2, tmp_path / "hash.img"),
+                          lambda tree: tree["keyslots"]["1"]["kdf"].update(hash="md5"))
     key = [] if "--volume-key-file" in line else ["--key-file", "pass"]
-    ended = rescue.changed("import os", change)("decrypt", *line.split(), *key, "-o", "plain")
+    words = line.split() if line.startswith("try ") else ["decrypt", *line.split(), *key, "-o", "plain"]
+    ended = rescue.changed("import os", change)(*words)
     says(ended, f"luksrd-rescue: {message}", status=status)
     assert ended.output == b"" and not (tmp_path / "plain").exists()
+
+
+def swap(path):
+    path.write_bytes(bytes(1 << 20))
+    must("mkswap", path)
+    return path.read_bytes()
+
+
+def partitioned(path):
+    path.write_bytes(bytes(3 << 20))
+    must("sfdisk", "-q", path, stdin=b"label: dos\nstart=2048, size=2048\n")
+    volumes.overwrite(path, 1 << 20, swap(path.with_name("swap")))
+    return path.read_bytes()
+
+
+@needs("mkswap", "sfdisk")
+@pytest.mark.parametrize("make, lines", [
+    (swap, ["plain is swap space.", "  swap space: there are no files in it"]),
+    (partitioned, ["plain is a partition table (MBR):", "  partition 1: swap space, 1 MiB",
+                   "    swap space: there are no files in it"]),
+    (lambda path: raid(4 << 20), ["plain is RAID, label host:0.",
+                                  "  one disk of a RAID: mdadm reads it, with the others"]),
+    (lambda path: path.with_name("disk.img").read_bytes(),
+     ["plain is LUKS.", "  luksrd-rescue decrypt plain -o inner.img"]),
+    (lambda path: bytes(1 << 20), ["plain is nothing that blkid knows: a damaged file system, or the key and the header "
+                                   "are of another volume"])])
+def test_what_the_plaintext_is(rescue, disk2, tmp_path, make, lines):
+    content = make(tmp_path / "content")
+    content += bytes(-len(content) % 512)
+    (tmp_path / "outer").mkdir()
+    volumes.luks1(tmp_path / "outer/outer.img", "aes-xts-plain64", "sha256", 512)
+    volumes.fill1(tmp_path / "outer/outer.img", content)
+    ended = rescue("decrypt", "outer/outer.img", "--key-file", "pass", "--quiet", "-o", "plain")
+    assert (ended.status, ended.message, ended.output.decode().splitlines()[1:]) == (0, "", lines)
+    assert shown((tmp_path / "plain").read_bytes()) == shown(content)
 
 
 def test_contents_that_are_not_found_out(rescue, disk1, kinds):

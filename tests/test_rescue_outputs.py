@@ -1,4 +1,5 @@
 """luksrd-rescue decrypt: which outputs are made, and which are refused; arguments and images that cannot be."""
+import errno
 import os
 import re
 import stat
@@ -196,6 +197,11 @@ def test_devices(rescue, disk2, kinds, loop, bad_sectors, tmp_path):
     words = ["decrypt", "disk.img", "--key-file", "pass"]
     says(rescue(*words, "-o", target), "is a device: --force overwrites all that is on it", status=1)
     says(rescue(*words, "--force", "-o", small), "and the plaintext", status=1)
+    says(rescue(*words, "--force", "-o", target, "--resume"),
+         "--resume: needs --map here: a device has no map beside it", status=1)
+    gone = bad_sectors(image, [(START + 4096, 512)], error=errno.ENXIO)
+    says(rescue("decrypt", image, "--key-file", "pass", "-o", "plain", env=gone), f"{image}: the disk is gone: No such "
+         "device or address; what is written is kept, and --resume goes on with it by plain.map\n", status=6)
     for from_, to in (("disk.img", image), (image, "disk.img"), (image, other), (image, image)):
         says(rescue("decrypt", from_, "--key-file", "pass", "--force", "-o", to), "nothing is written there", status=1)
     for places in [(START + 4096 + 512, 512)], []:
@@ -207,6 +213,7 @@ def test_devices(rescue, disk2, kinds, loop, bad_sectors, tmp_path):
 
 
 @alone
+@pytest.mark.of_script
 @needs("loop", "mount", "mke2fs")
 def test_device_that_is_mounted(rescue, disk2, loop, tmp_path):
     (tmp_path / "target").write_bytes(bytes(16 << 20))
@@ -278,6 +285,20 @@ def test_output_on_a_file_system_in_the_image(devices, folder, image, is_inside)
     assert related.is_inside(devices(folder), devices(image)) is is_inside
 
 
+@pytest.mark.parametrize("device, users", [
+    ("root", ["/mnt"]), ("crypt", ["/mnt"]), ("sda2", ["/mnt"]), ("sda", ["/mnt"]), ("sda1", []), ("home", []),
+    ("loop0", ["swap"])])
+def test_users_of_a_device(devices, monkeypatch, device, users):
+    """What is mounted on what the device mapper puts on it, or swapped to."""
+    texts = {"/proc/self/mountinfo": "22 1 0:5 / /proc rw - proc proc rw\n36 22 253:1 / /mnt rw - ext4 /dev/root rw",
+             "/proc/swaps": "Filename Type Size Used Priority\n/gone file 1 0 -2\n/dev/loop0 partition 1 0 -2"}
+    read, stat_of = related._read, os.stat
+    monkeypatch.setattr(related, "_read", lambda path: texts.get(path) or read(path))
+    monkeypatch.setattr(related.os, "stat", lambda path, **how: devices("loop0") if path == "/dev/loop0" else stat_of(
+        path, **how))
+    assert related.mounted_on(devices(device).st_rdev) == users
+
+
 def described(system, device):
     """A folder for this device, in one like /sys."""
     pair = f"{os.major(device)}:{os.minor(device)}"
@@ -288,6 +309,7 @@ def described(system, device):
 
 
 @alone
+@pytest.mark.of_script
 @needs("loop")
 def test_output_above_the_image(rescue, disk2, loop, tmp_path):
     """A device that is not the image, and is on it by what the kernel says, gets nothing."""

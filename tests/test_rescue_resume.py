@@ -269,9 +269,13 @@ def test_no_map(rescue, large, plain, begun, tmp_path):
     assert same(tmp_path / "other", plain)
 
 
-def test_file_that_was_changed(rescue, large, begun, tmp_path):
+def test_file_that_was_changed(rescue, large, plain, begun, tmp_path):
+    """If it is gone, all begins anew, whatever the map says."""
     os.truncate(tmp_path / "plain", 100)
     says(begun(), "has 100 bytes, and the map is of a file of", status=1)
+    (tmp_path / "plain").unlink()
+    says(begun(), status=0)
+    assert same(tmp_path / "plain", plain)
 
 
 def test_old_bytes_are_overwritten(rescue, tmp_path):
@@ -296,6 +300,9 @@ def test_progress(rescue, large):
         assert terminal.ended() == 0
         # (what is done at once has no rate yet)
         assert re.search(rb"\d+% .*\[\d+:\d+<(\?|\d+:\d+), .*B/s\]", terminal.shown) and rb"Traceback" not in terminal.shown
+    (rescue.folder / "plain").unlink()
+    with Terminal(rescue.changed("import sys; sys.modules['tqdm'] = None"), *COMMAND) as terminal:
+        assert terminal.ended() == 0 and b"%" not in terminal.shown
     (rescue.folder / "plain").unlink()
     assert rescue(*COMMAND, "--quiet").message == ""
     # without a terminal a line each ten seconds, which are none here
