@@ -182,31 +182,32 @@ def test_memory_of_a_long_run(rescue, disk1):
 
 NO_HEADER = "there is no LUKS header here; if there is a backup of it, name it by --header"
 NOT_FOUND = "the library of luksrd is not found, or too old: install libluksrd2, or name its file by LUKSRD_LIBRARY ("
-of_script = pytest.mark.of_script
+
+
+def of_script(*row):
+    """A row for which it does not matter what is built."""
+    return pytest.param(*row, marks=pytest.mark.of_script)
 
 
 @pytest.mark.parametrize("line, change, message, status", [
-    pytest.param("disk.img --partition 1", "", "disk.img: there is no partition table: choose the volume by --offset", 1,
-                 marks=of_script),
-    pytest.param("table.img --partition 9", "", "table.img: there is no partition 9, only 1, 2", 1, marks=of_script),
-    pytest.param("table.img --partition 1 --offset 0", "", "--partition: does not go with --offset and --length", 1,
-                 marks=of_script),
-    pytest.param("disk.img --offset 1G", "", "disk.img: --offset 1000000000 is not in it: it has 2400256 bytes", 1,
-                 marks=of_script),
-    pytest.param("disk.img --payload-offset 1", "", "--payload-offset: goes with --volume-key-file alone", 1,
-                 marks=of_script),
-    pytest.param("disk.img --volume-key-file pass --key-slot 1", "", "--key-slot: does not go with --volume-key-file", 1,
-                 marks=of_script),
+    of_script("disk.img --partition 1", "", "disk.img: there is no partition table: choose the volume by --offset", 1),
+    of_script("table.img --partition 9", "", "table.img: there is no partition 9, only 1, 2", 1),
+    of_script("table.img --partition 1 --offset 0", "", "--partition: does not go with --offset and --length", 1),
+    of_script("disk.img --offset 1G", "", "disk.img: --offset 1000000000 is not in it: it has 2400256 bytes", 1),
+    of_script("disk.img --payload-offset 1", "", "--payload-offset: goes with --volume-key-file alone", 1),
+    of_script("disk.img --volume-key-file pass --key-slot 1", "",
+              "--key-slot: does not go with --volume-key-file", 1),
+    of_script("disk.img --header disk.img", "os.environ['LUKSRD_AUDIT'] = '/bin/true'",
+              "disk.img: luksrd-audit says nothing of it", 4),
     ("table.img --partition 2", "", f"table.img: {NO_HEADER}\n", 4),
     ("table.img --offset 0", "", f"table.img: {NO_HEADER}\n", 4),
     ("table.img --header disk.img", "", "table.img: it has partitions, and --header does not say of which one: add "
      "--partition with one of 1, 2", 1),
-    ("table.img --offset 0 --volume-key-file pass", "", "table.img: there is no header to say where the payload begins: "
-     "add --payload-offset (often 16Mi in LUKS2, 2Mi in LUKS1), and --cipher and --sector-size if they differ", 1),
+    ("table.img --offset 0 --volume-key-file pass", "", "table.img: there is no header to say where the payload "
+     "begins: add --payload-offset (often 16Mi in LUKS2, 2Mi in LUKS1), and --cipher and --sector-size if they "
+     "differ", 1),
     ("disk.img --volume-key-file pass", "", "pass: ", 1),
     ("disk.img --header pass", "", "pass: no LUKS header", 4),
-    pytest.param("disk.img --header disk.img", "os.environ['LUKSRD_AUDIT'] = '/bin/true'",
-                 "disk.img: luksrd-audit says nothing of it", 4, marks=of_script),
     ("disk.img --key-slot 7", "", "disk.img: key slot 7 is not in use; in use: 0, 1", 1),
     ("disk.img --range 303104:1", "", "--range: ends at 303105, and there are 303104 bytes", 1),
     ("integrity.img", "", "integrity.img: luksrd does not read this volume: it has integrity protection: cryptsetup "
@@ -261,8 +262,8 @@ def partitioned(path):
                                   "  one disk of a RAID: mdadm reads it, with the others"]),
     (lambda path: path.with_name("disk.img").read_bytes(),
      ["plain is LUKS.", "  luksrd-rescue decrypt plain -o inner.img"]),
-    (lambda path: bytes(1 << 20), ["plain is nothing that blkid knows: a damaged file system, or the key and the header "
-                                   "are of another volume"])])
+    (lambda path: bytes(1 << 20), ["plain is nothing that blkid knows: a damaged file system, or the key and the "
+                                   "header are of another volume"])])
 def test_what_the_plaintext_is(rescue, disk2, tmp_path, make, lines):
     content = make(tmp_path / "content")
     content += bytes(-len(content) % 512)
@@ -278,6 +279,7 @@ def test_contents_that_are_not_found_out(rescue, disk1, kinds):
     """All is decrypted, and the status says so."""
     ended = rescue.changed("found = tools.found", "tools.found = lambda it: None if it == 'blkid' else found(it)")(
         "decrypt", disk1, "--key-file", "pass", "-o", "plain")
-    says(ended, "plain: what it is was not found out: blkid: is not installed: run apt-get install util-linux\n", status=0)
+    says(ended, "plain: what it is was not found out: blkid: is not installed: run apt-get install util-linux\n",
+         status=0)
     assert (rescue.folder / "plain").read_bytes() == kinds.text(VOLUME1)
     assert ended.output == b"plain: 293 KiB, opened by key slot 0\n"

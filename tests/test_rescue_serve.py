@@ -169,8 +169,8 @@ def test_in_use(serve, kinds):
         assert served.process.wait(300) == 0
 
 
-ROOT = ("Root cannot read plain/plain, since FUSE shows it to you alone. To mount it, serve it as root, or first add the "
-        "line user_allow_other to {}.")
+ROOT = ("Root cannot read plain/plain, since FUSE shows it to you alone. To mount it, serve it as root, or first add "
+        "the line user_allow_other to {}.")
 
 
 @pytest.mark.parametrize("config, is_said", [(None, False), ("absent", True), ("# user_allow_other\n", True),

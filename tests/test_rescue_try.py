@@ -226,7 +226,7 @@ AT_THE_END = "trying._next_lines = stop"
     ([AT_THE_END, "terminal.wipe = lambda _: None"], {2}, set())],
     ids=["after the first line", "at the end", "read by a few bytes", "not wiped"])
 def test_candidates_are_overwritten(rescue, disk2, tmp_path, lines, there, wiped):
-    """A line that was tried is not in memory any more, and in the end none is: not the third one either, which opens."""
+    """A line that was tried is not in memory any more, and in the end none is: not even the third one, which opens."""
     (tmp_path / "key").write_bytes(SECRETS[2])
     cryptsetup("luksAddKey --pbkdf pbkdf2 --pbkdf-force-iterations 1000 --key-file pass", disk2, "key", cwd=tmp_path)
     (tmp_path / "list").write_bytes(b"\r\n".join(SECRETS))

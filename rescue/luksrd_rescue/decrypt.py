@@ -79,8 +79,8 @@ def _add_running_options(parser: argparse.ArgumentParser) -> None:
     again = group.add_mutually_exclusive_group()
     again.add_argument("--resume", action="store_true", help="go on where the map says")
     again.add_argument("--retry", metavar="MAP",
-                       help="go on by this map, and try what is lost again; with --image-map again, "
-                       "if there was one")
+                       help="go on by this map, and try what is lost again; with --image-map "
+                       "again, if there was one")
     group.add_argument("--force", action="store_true",
                        help="overwrite an existing FILE or a device")
     group.add_argument("--quiet", action="store_true", help="show no progress")

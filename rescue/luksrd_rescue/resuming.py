@@ -57,8 +57,8 @@ def _check_image_map(source: str, comments: list[str], arguments: argparse.Names
     image has in place of what was not read would be decrypted to noise."""
     names = [it.removeprefix(_IMAGE_MAP) for it in comments if it.startswith(_IMAGE_MAP)]
     if names and arguments.image_map is None:
-        raise Refusal(USAGE, source, f"is of a run with --image-map {names[0]}: name the image's map "
-                      "again, or what it lacks becomes noise")
+        raise Refusal(USAGE, source, f"is of a run with --image-map {names[0]}: name the image's "
+                      "map again, or what it lacks becomes noise")
 
 
 def check_map_path(path: Optional[str], target: Target, kept: list[Kept],

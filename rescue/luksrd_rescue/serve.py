@@ -36,7 +36,8 @@ def register(subparsers) -> None:
     parser = subcommand(
         subparsers, "serve", run, EXAMPLES, "show the plaintext as a file, without a copy",
         "Show the plaintext of a volume as the read-only file DIR/plain, until Ctrl-C or "
-        "`umount DIR`.\nA read of what is lost fails. It needs nbdkit, nbdfuse and luksrd's filter for nbdkit.")
+        "`umount DIR`.\nA read of what is lost fails. It needs nbdkit, nbdfuse and luksrd's filter "
+        "for nbdkit.")
     parser.add_argument("folder", metavar="DIR",
                         help="an empty folder, or one that is not there yet")
     parser.add_argument("--quiet", action="store_true", help="show no progress")

@@ -27,8 +27,8 @@ TRIES = 3
 # where the header of LUKS1 has its key slots, of so many bytes each
 _SLOTS1, _SLOT1_BYTES = 208, 48
 CIPHERS = ["aes-xts-plain64", "aes-xts-plain", "aes-cbc-essiv:sha256", "aes-cbc-plain64"]
-KEYBOARD = ("Check Caps Lock and Num Lock. At boot the layout may have been another, often US: press "
-            "the same keys as at boot")
+KEYBOARD = ("Check Caps Lock and Num Lock. At boot the layout may have been another, often US: "
+            "press the same keys as at boot")
 NEWLINE = ("the key file ends with a newline, which counts: that is probably why. Make it without "
            "one")
 
@@ -65,7 +65,8 @@ def add_options(parser: argparse.ArgumentParser) -> None:
     group.add_argument("--cipher", choices=CIPHERS, help="with --volume-key-file, if the header is "
                        "lost; aes-xts-plain64 without it")
     group.add_argument("--payload-offset", metavar="BYTES", type=number,
-                       help="with that key: where the payload begins, after the volume's first byte")
+                       help="with that key: where the payload begins, after the volume's first "
+                       "byte")
     group.add_argument("--sector-size", metavar="BYTES", type=int, choices=(512, 1024, 2048, 4096),
                        help="with that key: of the encryption, 512 without it")
 

@@ -200,8 +200,8 @@ class Target:
     def _refuse_kept(self, found: os.stat_result, kept: list[Kept]) -> None:
         for it in kept:
             if related.are_related(found, it.identity) or related.is_inside(found, it.identity):
-                raise Refusal(USAGE, shown_path(self.path), f"is {shown(it.path)} itself, a part of "
-                              "it, or what it is a part of: nothing is written there")
+                raise Refusal(USAGE, shown_path(self.path), f"is {shown(it.path)} itself, a part "
+                              "of it, or what it is a part of: nothing is written there")
 
     def remove(self) -> None:
         """Takes a file that was made back, since nothing will be written to it."""
