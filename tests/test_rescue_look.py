@@ -49,9 +49,9 @@ def found_in(rescue, path, *options, status=0):
     return json.loads(ended.output)
 
 
-def text_of(rescue, *words, status=0):
+def text_of(rescue, *words, status=0, **how):
     """What is printed, without a message."""
-    ended = rescue("look", *words)
+    ended = rescue("look", *words, **how)
     assert (ended.status, ended.message) == (status, ""), ended
     return ended.output.decode()
 
@@ -421,19 +421,40 @@ def test_several_images(rescue, laptop, tmp_path):
         "cannot open: No such file or directory", None]
 
 
-@pytest.mark.parametrize("at, places", [("the table", (0, 512)), ("the header", (PLACES["luks"], 512)),
-                                        ("the other header", (PLACES["luks"] + 16384, 4096))])
-def test_a_failed_read(rescue, laptop, bad_sectors, tmp_path, at, places):
+AT_A_BYTE, IN_A_SEARCH = r"at byte \d+: Input/output error", "while it was searched for headers"
+
+
+@pytest.mark.parametrize("options, places, where", [
+    ([], (0, 512), AT_A_BYTE), ([], (PLACES["luks"], 512), AT_A_BYTE), ([], (PLACES["luks"] + 16384, 4096), AT_A_BYTE),
+    (["--search"], (4 * MIB, 512), IN_A_SEARCH)], ids=["the table", "the header", "the other header", "a search"])
+def test_a_failed_read(rescue, laptop, bad_sectors, tmp_path, options, places, where):
     """It says how to make an image first."""
     image = copy_of(laptop.disk, tmp_path / "disk")
-    ended = rescue("look", "disk", env=bad_sectors(image, [places]))
+    ended = rescue("look", *options, "disk", env=bad_sectors(image, [places]))
     assert (ended.status, ended.output) == (6, b"")
     first, *rest = ended.message.splitlines()
-    assert re.fullmatch(r"luksrd-rescue: disk: read failed at byte \d+: Input/output error", first)
+    assert re.fullmatch(f"luksrd-rescue: disk: read failed {where}", first)
     assert rest == ["Make an image first, and work on that:",
                     "    ddrescue -d disk disk.img disk.map   (from the package gddrescue)",
                     "    luksrd-rescue look disk.img",
                     "Then decrypt with --image-map disk.map, which has the sectors that were not read."]
+
+
+def test_a_search_that_ends_early(rescue, laptop, bad_sectors, tmp_path):
+    """The headers long before that are listed."""
+    image = copy_of(laptop.volume, tmp_path / "disk")
+    os.truncate(image, 80 * MIB)
+    text = text_of(rescue, "--search", "disk", env=bad_sectors(image, [(70 * MIB, 512)]))
+    assert "  at byte 0: LUKS2\n" in text
+    assert "  a read failed before its end: headers after that are not listed\n" in text
+
+
+def test_no_key_slot_in_use(rescue, kinds, tmp_path):
+    cryptsetup("erase", copy_of(kinds / VOLUME1, tmp_path / "disk.img"))
+    text = text_of(rescue, "disk.img")
+    assert "    no key slot is in use\n" in text and "luksrd-rescue decrypt" not in text
+    ended = rescue("decrypt", "disk.img", "--key-file", kinds / "pass", "-o", "plain")
+    assert ended == (1, b"", "luksrd-rescue: disk.img: no key slot can be tried: none is in use\n")
 
 
 def test_without_the_folder_of_system_programs(rescue, laptop):
