@@ -179,10 +179,11 @@ def test_a_line_that_is_too_long(tries, tmp_path):
 
 
 @pytest.mark.parametrize("words, image, message, status", [
-    pytest.param([], "absent", "absent: cannot open: No such file or directory", 4, marks=pytest.mark.of_script),
-    ([], "lines", "lines: no LUKS header was found; see what is there: luksrd-rescue look lines", 4),
+    *(pytest.param(*row, marks=pytest.mark.of_script) for row in (
+        ([], "absent", "absent: cannot open: No such file or directory", 4),
+        ([], "lines", "lines: no LUKS header was found; see what is there: luksrd-rescue look lines", 4),
+        (["--header", "absent"], "volume", "absent: cannot open: No such file or directory", 4))),
     (["--key-slot", "7"], "volume", "volume: key slot 7 is not in use", 1),
-    (["--header", "absent"], "volume", "absent: cannot open: No such file or directory", 4),
     (["--header", "lines"], "volume", "lines: no LUKS header", 4),
 ])
 def test_refusals(tries, words, image, message, status):

@@ -234,13 +234,13 @@ def _report(arguments: argparse.Namespace, volume: choosing.Volume, begun: _Begu
     if bad:
         say(arguments.output, f"{sized(bad)} of {sized(begun.length)} are missing"
             f"{_again(arguments, begun)}")
+    lines = [] if arguments.output == "-" else _description(arguments, begun)
     if not bad and begun.map_path is not None and arguments.map is None and arguments.retry is None:
         with contextlib.suppress(OSError):
             os.unlink(begun.map_path)
     status = FAILED if bad else IMAGE if missing else 0
-    if arguments.output != "-":
-        how = "written" if status else "complete"
-        tell(*_description(arguments, begun), besides=f"{shown(arguments.output)} is {how}")
+    how = "written" if status else "complete"
+    tell(*lines, besides=f"{shown(arguments.output)} is {how}")
     return status
 
 
