@@ -1,15 +1,14 @@
 -- The header of an image: which one is chosen, where it is, and how far the image is read for it.
-use Rattle.std.proofs.Common.{◌≡◌, ◌∙◌, ℕ, ◌+◌, ◌-◌, ◌*◌, ◌≤◌, List, ◌++◌, Option, Some, None, Bool, true}
+use Rattle.std.proofs.lemmas.Grind.{common_steps}
+use Rattle.std.proofs.Common.{◌≡◌, ◌∙◌, ℕ, ◌*◌, ◌≤◌, List, ◌++◌, Option, Some, None, Bool, true}
 use Rattle.std.proofs.Common.{false, ap, sym, refl, length, max, arith}
 use Rattle.std.specs.Prelude.{Ok, nat_lt, ok_or, option_and_then}
 use Rattle.std.specs.List.{find}
 use Rattle.std.proofs.lemmas.Option.{option_and_then_some}
-use Rattle.luks_kdf.specs.declared.hash.Hash.{Hash}
 use Rattle.luks_format.specs.declared.fault.HeaderFault.TheVariants.{NotLuks}
-use Rattle.luks_format.specs.Fields.{text_of}
 use Rattle.luks2_binary.specs.Choice2.{with_valid_primary, binary_at, chosen2_of, found_at, header2_of, is_valid}
 use Rattle.luks2_binary.specs.Choice2.{fits, size_at}
-use Rattle.luks2_binary.specs.Header2.{binary_len, checksum_hash_in, header2_from, sequence_in, size_in, sizes}
+use Rattle.luks2_binary.specs.Header2.{header2_from, sequence_in, size_in, sizes}
 use Rattle.luks2_binary.specs.ReadLen2.{probe2_len, probe_end, search_len}
 use Rattle.luks2_binary.specs.Search2.{furthest, offsets, walk}
 use Rattle.luks2_binary.specs.Text2.{json_text_of, header_offset}
@@ -64,10 +63,7 @@ module _ (image : List ℕ) where
 
   pub walk_within : walk image offsets ≤ probe2_len image
   unfolding offsets furthest
-  walk_within = by (is_valid image 0) refl where
-    by : (b : Bool) → is_valid image 0 ≡ b → walk image offsets ≤ probe2_len image
-    by true e = rw e (omega (arith, probe_first))
-    by false e = omega (arith, walk_is e)
+  walk_within = grind (arith, common_steps, probe_first, walk_is)
 
 -- ---- loading the image step by step
 
@@ -140,11 +136,7 @@ made_of : (role : HeaderRole) (finding : Option PairFinding) (binary : List ℕ)
     → header2_from role finding binary ≡ Some header
     → (header.role ≡ role) × (header.size ≡ size_in binary) × (header.detached ≡ false)
 unfolding header2_from
-made_of role finding binary header is = by (checksum_hash_in binary) refl where
-  by : (known : Option Hash) → checksum_hash_in binary ≡ known
-      → (header.role ≡ role) × (header.size ≡ size_in binary) × (header.detached ≡ false)
-  by (Some hash) e = (let made = rw e at is in (cc, cc, cc))
-  by None e = absurd (let made = rw e at is in cc)
+made_of role finding binary header is = grind (arith, common_steps)
 
 -- a header is at this offset of the image, is valid there, and is attached
 record HasHeaderAt (image : List ℕ) (header : Header2) (offset : ℕ) : Type 0 where
@@ -164,12 +156,7 @@ module _ (image : List ℕ) (header : Header2) where
       → header2_from role finding (binary_at image offset) ≡ Some header → HasHeaderAt image header offset
   header_at role finding offset valid own is =
       let made = made_of role finding (binary_at image offset) header is in
-      record {
-        valid = valid;
-        here = ap (λ p. header_offset p header.size) made.0 ∙ ap (λ n. header_offset role n) made.1 ∙ own;
-        size = made.1;
-        attached = made.2;
-      }
+      grind (arith, common_steps)
 
   -- the header of an image with a valid primary one is at an offset of the image
   choice_with_primary_at : is_valid image 0 ≡ true → with_valid_primary image ≡ Some header
@@ -201,8 +188,7 @@ module _ (image : List ℕ) (header : Header2) where
       → found_at image offset ≡ Some header → HasHeaderAt image header offset
   search_result_at none offset least is =
       let one = found_passes (is_valid image) sizes offset least in
-      let some : offset ≡ 0 → ⊥ =
-      λ start. (let wrong : true ≡ false = sym one ∙ ap (is_valid image) start ∙ none in cc) in
+      let some : offset ≡ 0 → ⊥ = grind (arith, common_steps) in
       let own = own_size image offset (valid_parts image offset one).0 some in
       header_at Secondary (Some PrimaryNotValid) offset one own is
 
@@ -218,11 +204,7 @@ module _ (image : List ℕ) (header : Header2) where
   -- the header of an image is at an offset of it
   located : header2_of image ≡ Ok header → (offset : ℕ) × HasHeaderAt image header offset
   unfolding header2_of
-  located is = by (chosen2_of image) refl where
-    by : (chosen : Option Header2) → chosen2_of image ≡ chosen → (offset : ℕ) × HasHeaderAt image header offset
-    by (Some found) e =
-        chosen_header_at (e ∙ (let answer = sym (ap (λ o. ok_or o NotLuks) e) ∙ is in ap Some cc))
-    by None e = absurd (let answer = sym (ap (λ o. ok_or o NotLuks) e) ∙ is in cc)
+  located is = grind (arith, common_steps, chosen_header_at)
 
 -- a header is read as an attached one
 pub read_attached : (image : List ℕ) (header : Header2) → header2_of image ≡ Ok header → header.detached ≡ false
@@ -236,5 +218,4 @@ text_more loaded more image same header is =
     let it = located loaded header is in
     let range = valid_range loaded it.0 it.1.valid in
     let whole = valid_parts loaded it.0 it.1.valid in
-    ap text_of (at_more loaded more image same (header_offset header.role header.size + binary_len)
-    (header.size - binary_len) (omega (arith, range.1, it.1.here, it.1.size, whole.1)))
+    grind (arith, common_steps, at_more)

@@ -1,4 +1,6 @@
 -- The search for the first valid header: what it has checked need not be checked again when more bytes are loaded.
+use Rattle.std.proofs.Common.{rules}
+use Rattle.std.proofs.lemmas.Grind.{common_steps}
 use Rattle.std.proofs.Common.{◌≡◌, ◌∙◌, ℕ, ◌+◌, ◌<◌, ◌≤◌, ◌==◌, List, [], ◌∷◌, ◌++◌, Option, Some, None, Bool, true}
 use Rattle.std.proofs.Common.{false, add-one, ap, arith, drop, drop-cons, get_or, length, max, refl, sym, take}
 use Rattle.std.proofs.lemmas.List.{take-append-drop, take_all, take_more}
@@ -7,7 +9,7 @@ use Rattle.std.specs.Prelude.{option_and_then, if◌then◌else◌, ◌*◌}
 use Rattle.std.specs.List.{find}
 use Rattle.std.proofs.lemmas.Bool.{ne_eqb}
 use Rattle.luks2_binary.specs.Choice2.{chosen2_of, found_at, is_valid, size_at, with_valid_primary}
-use Rattle.luks2_binary.specs.Header2.{size_in, sizes}
+use Rattle.luks2_binary.specs.Header2.{size_in}
 use Rattle.luks2_binary.specs.ReadLen2.{IsNextEnd, probe2_len, probe_end}
 use Rattle.luks2_binary.specs.Search2.{IsSearchOf, checked, furthest, offsets, walk}
 use Rattle.luks2_binary.specs.declared.header_search.Search.{Search}
@@ -21,10 +23,7 @@ pub search_more : (loaded more image : List ℕ) → image ≡ loaded ++ more �
     → IsSearchOf loaded search → IsSearchOf image search
 search_more loaded more image is search before =
     let same = walk_same loaded more image is (checked search) before.whole in
-    record {
-      first = same.0 ∙ before.first;
-      whole = omega (arith, same.1, before.whole, longer loaded more image is);
-    }
+    grind (arith, common_steps, longer)
 
 -- the walk goes on behind offsets without a valid header
 walk_on : (image passed left : List ℕ) → find (is_valid image) passed ≡ None
@@ -41,9 +40,7 @@ walk_on image (offset ∷ passed) left none = by (is_valid image offset) refl (w
 module _ (loaded : List ℕ) (count : ℕ) (before : IsSearchOf loaded (Passed count)) where
   -- the walk over all offsets goes on over those that are left
   walk_left : walk loaded offsets ≡ max (walk loaded (take count offsets)) (walk loaded (drop count offsets))
-  walk_left =
-      sym (ap (walk loaded) (take-append-drop count offsets))
-      ∙ walk_on loaded (take count offsets) (drop count offsets) before.first
+  walk_left = cc (take-append-drop count offsets, walk_on loaded (take count offsets) (drop count offsets) before.first)
 
   -- the first valid header is at one of the offsets that are left
   pub first_left : find (is_valid loaded) (drop count offsets) ≡ find (is_valid loaded) offsets
@@ -55,22 +52,13 @@ module _ (loaded : List ℕ) (count : ℕ) (before : IsSearchOf loaded (Passed c
 -- the primary header is not valid, and all bytes that are read are loaded
 next_none : (loaded : List ℕ) → is_valid loaded 0 ≡ false → walk loaded offsets ≤ length loaded
     → IsNextEnd probe2_len loaded 0
-next_none loaded other whole = record {
-  within = λ image more is. omega arith;
-  enough = λ all. omega (arith, whole, walk_is loaded other);
-}
+next_none loaded other whole = grind (arith, common_steps, walk_is)
 
 module _ (loaded : List ℕ) (count : ℕ) (before : IsSearchOf loaded (Passed count)) where
   -- no offset is left
   pub next_passed : length offsets ≤ count → IsNextEnd probe2_len loaded 0
   unfolding offsets
-  next_passed all = next_none loaded (by (is_valid loaded 0) refl) (rw all_checked at before.whole) where
-    all_checked : take count offsets ≡ offsets
-    all_checked = take_all count offsets all
-
-    by : (b : Bool) → is_valid loaded 0 ≡ b → is_valid loaded 0 ≡ false
-    by true e = absurd (let wrong = rw (all_checked, e) at before.first in cc)
-    by false e = e
+  next_passed all = search (rules, next_none, take_all)
 
   -- one more offset is checked
   module _ (offset : ℕ) (within : count < length offsets) (at : offset ≡ get_or offsets count 0) where
@@ -95,9 +83,7 @@ module _ (loaded : List ℕ) (count : ℕ) (before : IsSearchOf loaded (Passed c
       pub search_passed : is_valid loaded offset ≡ false → IsSearchOf loaded (Passed (count + 1))
       unfolding furthest
       search_passed none = record {
-        first =
-            rw (up_to, find-append {X = ℕ} (is_valid loaded) (take count offsets) (offset ∷ []), before.first, none)
-            refl;
+        first = grind (arith, common_steps, up_to, find-append);
         whole = rw (up_to, walk_on loaded (take count offsets) (offset ∷ []) before.first, none)
             (omega (arith, before.whole, whole));
       }
@@ -115,13 +101,7 @@ module _ (loaded : List ℕ) (count : ℕ) (before : IsSearchOf loaded (Passed c
 primary_found : (image : List ℕ) (offset : ℕ) → find (is_valid image) offsets ≡ Some offset
     → (offset == 0) ≡ is_valid image 0
 unfolding offsets
-primary_found image offset first = by (is_valid image 0) refl where
-  by : (b : Bool) → is_valid image 0 ≡ b → (offset == 0) ≡ is_valid image 0
-  by true e = (let same : Some 0 ≡ Some offset = rw e at first in let zero : offset ≡ 0 = cc in rw (e, zero) refl)
-  by false e =
-      let valid = found_passes (is_valid image) (0 ∷ sizes) offset first in
-      let some : offset ≡ 0 → ⊥ = λ zero. (let wrong : true ≡ false = sym valid ∙ ap (is_valid image) zero ∙ e in cc) in
-      ne_eqb offset 0 some ∙ sym e
+primary_found image offset first = grind (arith, common_steps, found_passes, ne_eqb)
 
 module _ (loaded : List ℕ) (offset : ℕ) (is : IsSearchOf loaded (Found offset)) where
   primary : (offset == 0) ≡ is_valid loaded 0
@@ -129,8 +109,7 @@ module _ (loaded : List ℕ) (offset : ℕ) (is : IsSearchOf loaded (Found offse
 
   -- a valid header was found, and it is not the primary one
   pub next_found : 0 < offset → IsNextEnd probe2_len loaded 0
-  next_found some =
-      next_none loaded (sym primary ∙ ne_eqb offset 0 (λ none. absurd (omega (arith, some, none)))) is.whole
+  next_found some = grind (arith, common_steps, next_none, primary, ne_eqb)
 
   -- the primary header is valid, so both are to be loaded
   pub next_both : offset ≤ 0 → IsNextEnd probe2_len loaded (2 * probe_end loaded 0)
@@ -155,11 +134,4 @@ pub chosen_by : (image : List ℕ) (first : Option ℕ) → find (is_valid image
     → option_and_then (λ offset. if offset == 0 then with_valid_primary image else found_at image offset) first
     ≡ chosen2_of image
 unfolding offsets chosen2_of
-chosen_by image first is = by (is_valid image 0) refl first is where
-  by : (b : Bool) → is_valid image 0 ≡ b → (first : Option ℕ) → find (is_valid image) (0 ∷ sizes) ≡ first
-      → option_and_then (λ offset. if offset == 0 then with_valid_primary image else found_at image offset) first
-      ≡ chosen2_of image
-  by true e first is = (let same : Some 0 ≡ first = rw e at is in rw (e, sym same) refl)
-  by false e None is = (let none = rw e at is in rw (e, none) refl)
-  by false e (Some offset) is =
-      (let found = rw e at is in rw (primary_found image offset is, e, found) refl)
+chosen_by image first is = grind (arith, common_steps, primary_found)

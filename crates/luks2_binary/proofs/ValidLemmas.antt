@@ -1,6 +1,7 @@
 -- Properties of a header that fits or is valid, in an image and in its loaded start.
+use Rattle.std.proofs.lemmas.Grind.{common_steps}
 use Rattle.std.proofs.Common.{◌≡◌, ◌∙◌, ◌==◌, ◌||◌, ℕ, ◌+◌, ◌<◌, ◌≤◌, List, Some, Bool, true, false, ap, sym}
-use Rattle.std.proofs.Common.{refl, length, max, arith, ◌&&◌, [], ◌∷◌, ◌++◌, drop, take, inl, inr}
+use Rattle.std.proofs.Common.{refl, length, max, arith, ◌&&◌, [], ◌∷◌, ◌++◌}
 use Rattle.std.proofs.Common.{length-append, length-drop}
 use Rattle.std.specs.Prelude.{filter, map, nat_lt, not}
 use Rattle.std.specs.List.{list_any, find}
@@ -22,12 +23,7 @@ module _ (offset : ℕ) (binary : List ℕ) (is : is_binary_of offset binary ≡
   -- two tests of a binary header: its length is one of the nine, and that of a secondary header is its offset
   tests : (list_any (λ size. size == size_in binary) sizes ≡ true) × ((offset == 0 || size_in binary == offset) ≡ true)
   unfolding is_binary_of
-  tests =
-      let four = and_parts _ _ is in
-      let three = and_parts _ _ four.0 in
-      let two = and_parts _ _ three.0 in
-      let one = and_parts _ _ two.0 in
-      (one.1, two.1)
+  tests = grind (arith, common_steps, and_parts)
 
   -- the length of a header is one of the nine
   pub size_range : (16384 ≤ size_in binary) × (size_in binary ≤ 4194304)
@@ -42,9 +38,7 @@ module _ (image : List ℕ) (offset : ℕ) where
   pub fits_parts : fits image offset ≡ true
       → (offset + 4096 ≤ length image) × (is_binary_of offset (binary_at image offset) ≡ true)
   unfolding fits
-  fits_parts h =
-      let both = and_parts _ _ h in
-      (leb-true (offset + 4096) (length image) both.0, both.1)
+  fits_parts h = grind (arith, common_steps, and_parts, leb-true)
 
   -- the length of a header that fits and is not primary is its offset
   pub own_size : fits image offset ≡ true → (offset ≡ 0 → ⊥) → size_at image offset ≡ offset
@@ -64,10 +58,7 @@ module _ (image : List ℕ) (offset : ℕ) where
   pub valid_parts : is_valid image offset ≡ true
       → (fits image offset ≡ true) × (offset + size_at image offset ≤ length image)
   unfolding is_valid
-  valid_parts h =
-      let two = and_parts _ _ h in
-      let one = and_parts _ _ two.0 in
-      (one.0, leb-true (offset + size_at image offset) (length image) one.1)
+  valid_parts h = grind (arith, common_steps, and_parts, leb-true)
 
   -- the binary header of a valid header is in the image, and its length is in the range of the nine
   pub valid_range : is_valid image offset ≡ true
@@ -98,10 +89,7 @@ module _ (image : List ℕ) (offset : ℕ) where
 module _ (loaded more image : List ℕ) (is : image ≡ loaded ++ more) where
   -- loaded bytes are the image's
   pub at_more : (offset n : ℕ) → offset + n ≤ length loaded → at offset n image ≡ at offset n loaded
-  at_more offset n within =
-      ap (λ l. at offset n l) is
-      ∙ ap (take n) (drop-append-le offset loaded more (omega (arith, within)))
-      ∙ take-append-le n (drop offset loaded) more (omega (arith, within, length-drop offset loaded))
+  at_more offset n within = grind (arith, common_steps, drop-append-le, take-append-le, length-drop)
 
   -- an image is no shorter than its start
   pub longer : length loaded ≤ length image
@@ -123,10 +111,7 @@ module _ (loaded more image : List ℕ) (is : image ≡ loaded ++ more) where
   probe_more offset within = rw (fits_more offset within, at_more offset 4096 within) refl
 
   pub probe_grows : (offset : ℕ) → probe_end loaded offset ≤ probe_end image offset
-  probe_grows offset = elim (cases_lt (length loaded) (offset + 4096)) [
-    | inl short ↦ omega (arith, probe_least image offset, probe_unfit loaded offset (short-fits loaded offset short))
-    | inr there ↦ omega (arith, probe_more offset there)
-  ]
+  probe_grows offset = grind (arith, common_steps, cases_lt, probe_least, probe_unfit, short-fits, probe_more)
 
   -- if all bytes that are read to check it are loaded, a header is valid in the image if and only if it is there
   pub valid_more : (offset : ℕ) → probe_end loaded offset ≤ length loaded
@@ -176,9 +161,7 @@ module _ (valid : ℕ → Bool) (probe : ℕ → ℕ) where
   one_by false false false false false false false false false a b c d e f g h i = rw (a, b, c, d, e, f, g, h, i) refl
 
   pub are_one : IsOne
-  are_one =
-      one_by (valid 16384) (valid 32768) (valid 65536) (valid 131072) (valid 262144) (valid 524288) (valid 1048576)
-      (valid 2097152) (valid 4194304) refl refl refl refl refl refl refl refl refl
+  are_one = grind (arith, common_steps, one_by)
 
 -- the search reads as far as its definition states
 pub search_len_is : (image : List ℕ) → search_len image ≡ furthest (is_valid image) (probe_end image) sizes
@@ -192,7 +175,6 @@ found_passes test [] offset is = absurd (cc)
 found_passes test (here ∷ offsets) offset is = by (test here) refl (found_passes test offsets offset) where
   by : (b : Bool) → test here ≡ b → (find test offsets ≡ Some offset → test offset ≡ true) → test offset ≡ true
   by true e behind =
-      let first : Some here ≡ Some offset = rw e at is in
       let same : offset ≡ here = cc in
       ap test same ∙ e
   by false e behind = behind (rw e at is)

@@ -1,13 +1,11 @@
+use Rattle.std.proofs.Common.{rules}
 use Rattle.std.proofs.Common.{◌∙◌, None, Some, sym}
-use Rattle.luks2_binary.specs.Choice2.{is_valid}
-use Rattle.luks2_binary.specs.Search2.{offsets}
 use Rattle.luks2_binary.proofs.SearchLemmas.{chosen_by}
 use Rattle.luks2_binary.proofs.ValidLemmas.{found_passes}
 use Rattle.luks2_binary.proofs.header_search.header2.Goals as goal
 
 pub chosen_at-requires : goal.chosen_at-requires
-chosen_at-requires c =
-    found_passes (is_valid c.args.bytes.now) offsets _ (sym c.first_valid.ensures ∙ c.in_ok-first_valid.was)
+chosen_at-requires c = search (rules, found_passes)
 
 pub returns-in_err-first_valid : goal.returns-in_err-first_valid
 returns-in_err-first_valid c =

@@ -1,6 +1,6 @@
+use Rattle.std.proofs.lemmas.Grind.{common_steps}
 use Rattle.std.proofs.Common.{◌≡◌, ◌-◌, ◌++◌, ◌∙◌, ap, arith, drop, take, length, length-take-le, sym}
-use Rattle.std.specs.Prelude.{bytes_eq, nat_eq, replicate}
-use Rattle.std.specs.List.{starts_with}
+use Rattle.std.specs.Prelude.{replicate}
 use Rattle.std.proofs.lemmas.List.{take_rest}
 use Rattle.luks_kdf.specs.Hash.{hash_of, digest_len}
 use Rattle.luks2_binary.specs.Checksum2.{without_checksum}
@@ -20,7 +20,4 @@ returns c =
     ∙ ap (λ zeros. hash_of c.args.hash (take 448 header ++ zeros ++ take (length header - 512) (drop 512 header)))
     c.no_checksum.ensures
     ∙ ap (λ rest. hash_of c.args.hash (take 448 header ++ replicate 64 0 ++ rest)) (take_rest header 512) in
-    c.starts_with.ensures.value
-    ∙ ap (λ l. starts_with nat_eq l out) (take_rest header 448)
-    ∙ ap (λ n. bytes_eq out (take n (drop 448 header))) long
-    ∙ ap (λ digest. bytes_eq digest (take (digest_len c.args.hash) (drop 448 header))) sum
+    grind (arith, common_steps, take_rest)

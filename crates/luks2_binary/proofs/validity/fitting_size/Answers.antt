@@ -1,3 +1,5 @@
+use Rattle.std.proofs.lemmas.Grind.{common_steps}
+use Rattle.std.proofs.Common.{arith}
 use Rattle.std.proofs.Common.{◌∙◌, sym}
 use Rattle.luks2_binary.specs.Choice2.{binary_at}
 use Rattle.luks2_binary.proofs.ValidLemmas.{fits_parts, size_range}
@@ -14,5 +16,4 @@ returns-then-fits-clause-range c =
     rw (c.size_in.ensures, c.binary_at.ensures.value) range
 
 pub returns-then-fits-clause-within : goal.returns-then-fits-clause-within
-returns-then-fits-clause-within c =
-    (let is = fits_parts c.args.bytes.now c.args.offset (sym c.fits.ensures ∙ c.if-fits.true) in is.0)
+returns-then-fits-clause-within c = grind (arith, common_steps, fits_parts)
