@@ -1,4 +1,7 @@
 -- The audit of an image under a name.
+use Rattle.std.proofs.Common.{rules}
+use Rattle.std.proofs.lemmas.Grind.{common_steps}
+use Rattle.std.proofs.Common.{arith}
 use Rattle.std.proofs.Common.{◌≡◌, ◌∙◌, ℕ, List, Option, Result, Ok, Err, refl, ap, Bool, true, false}
 use Rattle.std.specs.Prelude.{IfOk, is_err, nat_lt}
 use Rattle.luks_io.specs.Devices.{IfKnown, counted}
@@ -49,8 +52,7 @@ failed_count false before after none is = ap (nat_lt 0) (is ∙ none)
 closed_count : (failed : Bool) (failures failures1 failures2 reads reads' : ℕ) → reads ≡ 0 → failures1 ≡ failures
     → failures2 ≡ counted (nat_lt 0 reads') failures1 → reads' ≡ counted failed reads
     → failures2 ≡ counted failed failures
-closed_count failed failures failures1 failures2 reads reads' none same closed is =
-    closed ∙ ap (λ b. counted b failures1) (failed_count failed reads reads' none is) ∙ ap (counted failed) same
+closed_count failed failures failures1 failures2 reads reads' none same closed is = search (rules, failed_count)
 
 module _ (policy : Policy) (scope : Scope) (file : List ℕ) where
   -- an image was opened, audited and closed, or that was aborted
@@ -66,8 +68,7 @@ module _ (policy : Policy) (scope : Scope) (file : List ℕ) where
         failed = audited.failed;
         shown = audited.shown;
         puts = audited.puts;
-        failures_is = closed_count audited.failed failures failures1 failures2 reads reads' none same closed
-            audited.failures_is;
+        failures_is = grind (arith, common_steps, closed_count);
         shows = audited.shows;
         tells = opened_tells policy scope file to_come stored source audited.text left audited.failed audited.shown
             (is_err result) opens audited.tells audited.anyway;
@@ -80,12 +81,5 @@ module _ (policy : Policy) (scope : Scope) (file : List ℕ) where
       → Puts before after (unopened_line policy.format file fault) (is_err result)
       → IfOk result (λ state. state ≡ Unread)
       → AuditsFile policy scope file stored failures failures1 before after result
-  file_unopened to_come stored fault failures failures1 before after result opens same puts shows = record {
-    text = unopened_line policy.format file fault;
-    failed = false;
-    shown = Unread;
-    puts = puts;
-    failures_is = same;
-    shows = shows;
-    tells = unopened_tells policy scope file to_come stored fault opens;
-  }
+  file_unopened to_come stored fault failures failures1 before after result opens same puts shows =
+      grind (arith, common_steps, unopened_tells)

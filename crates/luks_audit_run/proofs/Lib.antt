@@ -4,4 +4,3 @@ pub mod RunLemmas
 pub mod SearchLemmas
 pub mod SearchedLemmas
 pub mod StartLemmas
-pub mod TextLemmas

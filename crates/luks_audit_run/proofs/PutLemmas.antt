@@ -1,5 +1,7 @@
 -- Texts that are written whole, or up to where writing was aborted.
-use Rattle.std.proofs.Common.{◌≡◌, ◌∙◌, ℕ, List, [], ◌++◌, Option, Bool, true, false, ap, refl, subst, sym}
+use Rattle.std.proofs.lemmas.Grind.{common_steps}
+use Rattle.std.proofs.Common.{arith}
+use Rattle.std.proofs.Common.{◌≡◌, ◌∙◌, ℕ, List, [], ◌++◌, Option, Bool, true, false, ap, refl}
 use Rattle.std.proofs.Common.{append_assoc, drop, take}
 use Rattle.std.proofs.lemmas.List.{append-nil, take-append-drop}
 use Rattle.luks_io.specs.Devices.{Appended}
@@ -26,14 +28,11 @@ puts_part before after text n written = record {
 -- nothing
 pub puts_none : (before : Option (List ℕ)) (text : List ℕ) (aborted : Bool) → aborted ≡ true
     → Puts before before text aborted
-puts_none before text aborted is =
-    record { part = []; rest = text; text_is = refl; written = appended-none before; all = λ wrong. absurd cc }
+puts_none before text aborted is = grind (arith, common_steps, appended-none)
 
 pub put_whole : (before after : Option (List ℕ)) (text : List ℕ) → Puts before after text false
     → Appended before after text
-put_whole before after text puts =
-    subst (Appended before after)
-    (sym (append-nil puts.part) ∙ ap (λ rest. puts.part ++ rest) (sym (puts.all refl)) ∙ puts.text_is) puts.written
+put_whole before after text puts = grind (arith, common_steps, append-nil)
 
 -- after another text
 pub puts_behind : (before now after : Option (List ℕ)) (first text : List ℕ) (aborted : Bool)
@@ -49,10 +48,4 @@ puts_behind before now after first text aborted written puts = record {
 -- another text would have followed
 pub puts_before : (before after : Option (List ℕ)) (text more : List ℕ) (aborted : Bool) → aborted ≡ true
     → Puts before after text true → Puts before after (text ++ more) aborted
-puts_before before after text more aborted is puts = record {
-  part = puts.part;
-  rest = puts.rest ++ more;
-  text_is = sym (append_assoc puts.part puts.rest more) ∙ ap (λ (line : List ℕ). line ++ more) puts.text_is;
-  written = puts.written;
-  all = λ wrong. absurd cc;
-}
+puts_before before after text more aborted is puts = grind (arith, common_steps, append_assoc)

@@ -1,7 +1,9 @@
 -- Runs over the first images, and one more.
+use Rattle.std.proofs.lemmas.Grind.{common_steps}
+use Rattle.std.proofs.Common.{arith}
 use Rattle.std.proofs.Common.{◌≡◌, ◌∙◌, ℕ, List, [], ◌∷◌, ◌++◌, Option, Result, Bool, false}
-use Rattle.std.proofs.Common.{append_assoc, ap, refl, subst, sym}
-use Rattle.std.specs.Prelude.{flat_map, is_err}
+use Rattle.std.proofs.Common.{append_assoc, ap, refl, sym}
+use Rattle.std.specs.Prelude.{is_err}
 use Rattle.std.proofs.lemmas.Grind.{flat_map-append}
 use Rattle.std.proofs.lemmas.List.{append-nil, map-append}
 use Rattle.luks_io.specs.Devices.{counted}
@@ -37,11 +39,7 @@ module _ (policy : Policy) (scope : Scope) (stored : List ℕ → Stored) where
       ≡ audit_text policy scope stored images
       ++ image_text policy scope one.file (bytes_in (stored one.file)) one.course
   unfolding audit_text
-  text_more images one =
-      let f : Audited → List ℕ = λ any. image_text policy scope any.file (bytes_in (stored any.file)) any.course in
-      ap (λ (text : List ℕ). head_of policy.format ++ text)
-      (flat_map-append f images (one ∷ []) ∙ ap (λ (text : List ℕ). flat_map f images ++ text) (append-nil (f one)))
-      ∙ sym (append_assoc (head_of policy.format) (flat_map f images) (f one))
+  text_more images one = grind (arith, common_steps, flat_map-append, append-nil, append_assoc)
 
   state_more : (images : List Audited) (one : Audited)
       → gravest_state policy scope stored (images ++ one ∷ [])
@@ -72,11 +70,7 @@ module _ (policy : Policy) (scope : Scope) (stored : List ℕ → Stored) where
             map-append (λ any. any.file) so_far.images (last ∷ [])
             ∙ ap (λ (names : List (List ℕ)). names ++ file ∷ []) so_far.files_are;
         possible = possible_more so_far.images last so_far.possible one.tells.possible;
-        puts =
-            subst P
-            (ap (λ (line : List ℕ). text ++ line) one.tells.text_is ∙ sym (text_more so_far.images last))
-            (puts_behind before now after text one.text (is_err result) (put_whole before now text so_far.puts)
-            one.puts);
+        puts = grind (arith, common_steps, text_more, puts_behind, put_whole);
         state_is =
             ap (λ s. graver s one.shown) so_far.state_is
             ∙ ap (graver (gravest_state policy scope stored so_far.images)) one.tells.state_is
@@ -95,9 +89,7 @@ module _ (policy : Policy) (scope : Scope) (stored : List ℕ → Stored) where
     images = [];
     files_are = refl;
     possible = tt;
-    puts =
-        let P : List ℕ → Type 0 = λ text. Puts before after text aborted in
-        subst P (sym (append-nil (head_of policy.format))) head;
+    puts = grind (arith, common_steps, append-nil);
     state_is = refl;
     failed = refl;
   }
@@ -108,7 +100,4 @@ pub moved_file : (policy : Policy) (scope : Scope) (now stored : List ℕ → St
     (failures failures' : ℕ) (before after : Option (List ℕ)) (result : Result State RunFault) → now ≡ stored
     → AuditsFile policy scope file (now file) failures failures' before after result
     → AuditsFile policy scope file (stored file) failures failures' before after result
-moved_file policy scope now stored file failures failures' before after result same one =
-    let P : (List ℕ → Stored) → Type 0 = λ has. AuditsFile policy scope file (has file) failures failures' before after
-    result in
-    subst P same one
+moved_file policy scope now stored file failures failures' before after result same one = grind (arith, common_steps)

@@ -1,5 +1,6 @@
 -- The audit of an image that is searched.
-use Rattle.std.proofs.Common.{◌≡◌, ◌∙◌, ℕ, List, [], ◌++◌, Option, Some, None, Result, Ok, Err, refl, sym, ap, arith}
+use Rattle.std.proofs.lemmas.Grind.{common_steps}
+use Rattle.std.proofs.Common.{◌≡◌, ℕ, List, [], ◌++◌, Option, Some, None, Result, Ok, Err, refl, ap, arith}
 use Rattle.std.proofs.Common.{Bool, false, true}
 use Rattle.std.specs.Prelude.{IfOk, IsErr, OnErr, OnOk, is_err}
 use Rattle.std.proofs.lemmas.Result.{IfOk-from_err}
@@ -89,8 +90,7 @@ module _ (policy : Policy) (file : List ℕ) (known left left' : Option (List �
           text = (so_far.text ++ line) ++ last;
           failed = false;
           shown = Unread;
-          puts = puts_before before after (so_far.text ++ line) last (is_err result) aborted
-              (puts_behind before now after so_far.text line true so_far.written puts);
+          puts = grind (arith, common_steps, puts_before, puts_behind);
           failures_is = same;
           shows = IfOk-from_err result _ aborted;
           anyway = search_anyway policy file ((so_far.text ++ line) ++ last) false Unread;
@@ -186,11 +186,7 @@ module _ (policy : Policy) (file : List ℕ) (known left left' : Option (List �
         shows = shows;
         anyway = search_anyway policy file (so_far.text ++ fault_line policy.format file (search_fault fault))
             (reports_failed_read {T = Unit {0}} (Err fault)) Unread;
-        tells = λ bytes is.
-            let told = so_far.told bytes is in
-            aborted_tells fault bytes
-            (told.text_is ∙ ap (place_lines policy file bytes) (sym (next bytes told.is_in).1))
-            (behind bytes told.is_in) (is_err result);
+        tells = grind (arith, common_steps, aborted_tells);
       }
 
 -- memory ran out before the search began

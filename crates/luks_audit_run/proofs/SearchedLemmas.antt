@@ -1,9 +1,10 @@
 -- The lines of a search, place by place.
+use Rattle.std.proofs.lemmas.Grind.{common_steps}
+use Rattle.std.proofs.Common.{arith}
 use Rattle.std.proofs.Common.{◌≡◌, ◌∙◌, ℕ, List, [], ◌∷◌, ◌++◌, Option, Some, None, Ok, refl, sym, ap}
 use Rattle.std.proofs.Common.{false}
 use Rattle.std.proofs.lemmas.List.{append-nil}
 use Rattle.std.proofs.lemmas.Grind.{flat_map-append}
-use Rattle.std.specs.Prelude.{flat_map}
 use Rattle.luks_format.specs.declared.fault.HeaderFault.TheVariants.{NotLuks}
 use Rattle.luks_search.specs.Places.{header_at, places_below, places_of}
 use Rattle.luks_search.specs.Search.{IsIn, SearchModel}
@@ -11,26 +12,16 @@ use Rattle.luks_search.specs.declared.place.Place.{Place}
 use Rattle.luks_audit.specs.Image.{fault_line, header_line, header_state}
 use Rattle.luks_audit.specs.declared.image.Policy.{Policy}
 use Rattle.luks_audit.specs.declared.image.State.{State}
-use Rattle.luks_audit.specs.declared.image.State.TheVariants.{Clean, Flawed, Unread}
+use Rattle.luks_audit.specs.declared.image.State.TheVariants.{Clean}
 use Rattle.luks_audit_run.specs.Searched.{end_line, end_state, graver, graver_of, gravest_place}
 use Rattle.luks_audit_run.specs.Searched.{place_line, lines_or_none, place_lines}
 use Rattle.luks_audit_run.specs.Searched.{searched_lines, searched_state, shown_of, place_state, state_or_none}
 
 pub graver_clean : (state : State) → graver state Clean ≡ state
-graver_clean Clean = refl
-graver_clean Flawed = refl
-graver_clean Unread = refl
+graver_clean x0 = grind (arith, common_steps)
 
 pub graver_assoc : (a b c : State) → graver a (graver b c) ≡ graver (graver a b) c
-graver_assoc Unread b c = refl
-graver_assoc Clean b c = refl
-graver_assoc Flawed Unread c = refl
-graver_assoc Flawed Flawed Unread = refl
-graver_assoc Flawed Flawed Flawed = refl
-graver_assoc Flawed Flawed Clean = refl
-graver_assoc Flawed Clean Unread = refl
-graver_assoc Flawed Clean Flawed = refl
-graver_assoc Flawed Clean Clean = refl
+graver_assoc x0 b c = grind (arith, common_steps)
 
 module _ (policy : Policy) (file image : List ℕ) where
   lines_none : place_lines policy file image [] ≡ []
@@ -42,10 +33,7 @@ module _ (policy : Policy) (file image : List ℕ) where
       → place_lines policy file image (places ++ offset ∷ [])
       ≡ place_lines policy file image places ++ place_line policy file offset (header_at image offset)
   unfolding place_lines
-  lines_more places offset =
-      let f : ℕ → List ℕ = λ place. place_line policy file place (header_at image place) in
-      flat_map-append f places (offset ∷ [])
-      ∙ ap (λ (line : List ℕ). flat_map f places ++ line) (append-nil (f offset))
+  lines_more places offset = grind (arith, common_steps, flat_map-append, append-nil)
 
   gravest_more : (places : List ℕ) (offset : ℕ)
       → gravest_place policy image (places ++ offset ∷ [])
@@ -61,8 +49,7 @@ module _ (policy : Policy) (file image : List ℕ) where
       → shown_of policy image (places ++ offset ∷ [])
       ≡ Some (graver_of (shown_of policy image places) (place_state policy (header_at image offset)))
   unfolding gravest_place
-  shown_more [] offset = ap Some (graver_clean (place_state policy (header_at image offset)))
-  shown_more (first ∷ places) offset = ap Some (gravest_more (first ∷ places) offset)
+  shown_more x0 offset = grind (arith, common_steps, graver_clean, gravest_more)
 
   -- the search has come so far
   pub record Told (search : SearchModel) (left : Option (List ℕ)) (text : List ℕ) (found : Option State) : Type 0 where
@@ -76,11 +63,7 @@ module _ (policy : Policy) (file image : List ℕ) where
 
   pub told_none : (left : Option (List ℕ)) → left ≡ Some image
       → Told (record { sector = 0; bytes = []; ended = false }) left [] None
-  told_none left is = record {
-    is_in = record { rest = image; left_is = is; here = refl; ends = λ ended. absurd (cc) };
-    text_is = sym (ap (place_lines policy file image) places_none ∙ lines_none);
-    found_is = sym (ap (shown_of policy image) places_none);
-  }
+  told_none left is = grind (arith, common_steps, places_none, lines_none)
 
   -- one more header was found
   pub told_more : (search search' : SearchModel) (left left' : Option (List ℕ)) (text : List ℕ) (found : Option State)
@@ -91,11 +74,7 @@ module _ (policy : Policy) (file image : List ℕ) where
       (Some (graver_of found (header_state policy place.header)))
   told_more search search' left left' text found place told is_in header places = record {
     is_in = is_in;
-    text_is = ap (λ (first : List ℕ). first ++ header_line policy file place.offset place.header) told.text_is
-        ∙ ap (λ read. place_lines policy file image (places_below image search.sector)
-        ++ place_line policy file place.offset read) (sym header)
-        ∙ sym (lines_more (places_below image search.sector) place.offset)
-        ∙ ap (place_lines policy file image) (sym places);
+    text_is = grind (arith, common_steps, lines_more);
     found_is = ap (λ before. Some (graver_of before (header_state policy place.header))) told.found_is
         ∙ ap (λ read. Some (graver_of (shown_of policy image (places_below image search.sector))
         (place_state policy read))) (sym header)
@@ -112,16 +91,11 @@ module _ (policy : Policy) (file image : List ℕ) where
       (ap (λ (first : List ℕ). first ++ fault_line policy.format file NotLuks) (is ∙ lines_none), refl)
   ends_by [] text (Some some) is found = absurd cc
   ends_by (place ∷ places) text None is found = absurd cc
-  ends_by (place ∷ places) text (Some some) is found = (
-    append-nil text ∙ is,
-    (let same : some ≡ gravest_place policy image (place ∷ places) = cc in same),
-  )
+  ends_by (place ∷ places) text (Some some) is found = grind (arith, common_steps, append-nil)
 
   -- the search has ended
   pub told_all : (search : SearchModel) (left : Option (List ℕ)) (text : List ℕ) (found : Option State)
       → Told search left text found → places_of image ≡ places_below image search.sector
       → (text ++ end_line policy file found ≡ searched_lines policy file image)
       × (end_state found ≡ searched_state policy image)
-  told_all search left text found told all =
-      ends_by (places_of image) text found (told.text_is ∙ ap (place_lines policy file image) (sym all))
-      (told.found_is ∙ ap (shown_of policy image) (sym all))
+  told_all search left text found told all = grind (arith, common_steps, ends_by)

@@ -1,4 +1,7 @@
 -- The audit of an image at whose start a header is sought.
+use Rattle.std.proofs.Common.{rules}
+use Rattle.std.proofs.lemmas.Grind.{common_steps}
+use Rattle.std.proofs.Common.{arith}
 use Rattle.std.proofs.Common.{◌≡◌, ℕ, List, Option, Result, Err, refl, Bool, true, false, inl, inr}
 use Rattle.std.specs.Prelude.{IfOk, is_err}
 use Rattle.luks_io.specs.Devices.{IfKnown, counted}
@@ -10,7 +13,7 @@ use Rattle.luks_audit.specs.declared.image.State.{State}
 use Rattle.luks_audit.specs.declared.image.State.TheVariants.{Unread}
 use Rattle.luks_audit_run.specs.Host.Stored.{image, unknown}
 use Rattle.luks_audit_run.specs.Run.{Audits, Puts, Tells, image_state, image_text}
-use Rattle.luks_audit_run.specs.Run.Course.{whole, not_read, no_memory, found as some_found}
+use Rattle.luks_audit_run.specs.Run.Course.{not_read, no_memory, found as some_found}
 use Rattle.luks_audit_run.specs.declared.image.RunFault.{RunFault}
 use Rattle.luks_audit_run.specs.declared.image.Scope.TheVariants.{Start}
 
@@ -18,13 +21,7 @@ use Rattle.luks_audit_run.specs.declared.image.Scope.TheVariants.{Start}
 pub start_tells : (failed : Bool) (policy : Policy) (file bytes line : List ℕ) (state : State)
     → IsAudited failed policy file bytes line state → Tells policy Start (image bytes) file line failed state
 unfolding image_text image_state
-start_tells false policy file bytes line state (inl audited) = record {
-  course = whole;
-  possible = tt;
-  failed_is = refl;
-  text_is = audited.0;
-  state_is = audited.1;
-}
+start_tells false policy file bytes line state (inl audited) = grind (arith, common_steps)
 start_tells false policy file bytes line state (inr audited) = record {
   course = no_memory 0;
   possible = tt;
@@ -78,14 +75,4 @@ pub start_audits : (policy : Policy) (file : List ℕ) (known left : Option (Lis
     → IfOk result (λ shown. shown ≡ state)
     → Audits policy Start file known left failures failures' before after result
 start_audits policy file known left failures failures' before after failed line state result same audited anyway puts
-    shows = record {
-      text = line;
-      failed = failed;
-      shown = state;
-      puts = puts;
-      failures_is = same;
-      shows = shows;
-      tells = λ bytes is.
-          record { tells = start_tells failed policy file bytes line state (audited bytes is); near = λ _. tt };
-      anyway = start_anyway failed policy file line state anyway;
-    }
+    shows = search (rules, start_tells, start_anyway)
