@@ -47,7 +47,7 @@ def test_counts_of_work():
         "luks_seal/src/pieces.rt": 1,  # a volume that is sealed
     }
     # a parameter, and an import under its own name
-    other = re.compile(r"&(mut )?Work\b(?!::)|^use luks_kdf::(Work;|\{(.*, )?Work(, .*)?\};)", re.MULTILINE)
+    other = re.compile(r"&(mut )?Work\b(?!::)|^(?:pub )?use luks_kdf::(Work;|\{(.*, )?Work(, .*)?\};)", re.MULTILINE)
     made, used_otherwise = {}, []
     for path in sorted(TOP.glob("crates/*/src/**/*.rt")):
         name = str(path.relative_to(TOP / "crates"))

@@ -7,9 +7,11 @@
 pub use luks_header::derivation::Argon2Limits;
 pub use luks_header::fault::HeaderFault;
 pub use luks_header::refusal::SegmentFault;
+pub use luks_kdf::Work;
 pub use luks_open::allowed::SlotChoice;
 pub use luks_open::fault::{OpenFault, PassphraseFault, VolumeFault};
 pub use luks_open::location::HeaderLocation;
+pub use luks_open::with_argon2::WithArgon2;
 pub use luks_report::message::Message;
 
 pub mod fault;

@@ -6,11 +6,13 @@ ghost use Rattle.std.specs.Prelude.{IfErr, IfOk, OnOk, length, replicate, true};
 ghost use Rattle.luks_cipher.specs.Expanded.{AreExpanded};
 ghost use Rattle.luks_io.specs.Counts.{Reads};
 ghost use Rattle.luks_io.specs.Devices.{IfKnown};
+ghost use Rattle.luks_open.specs.Costs.{CountsOfImage};
 ghost use Rattle.luks_open.specs.Fault.{has_fault, is_read_failure};
+ghost use Rattle.luks_open.specs.Location.{reader_for};
 ghost use Rattle.luks_payload.specs.Plain.{ending_of, sector_len};
 ghost use Rattle.luks_access.specs.Sectors.{FailsAtStart, FailsInRange, IsRangeOf};
 ghost use Rattle.luks_access.specs.Opens.{EndsOpening, OpensVolume, RefusesVolume};
-ghost use Rattle.luks_access.specs.Opens.{plaintext_of};
+ghost use Rattle.luks_access.specs.Opens.{allowed_by, plaintext_of};
 
 use crate::fault::RangeFault;
 use crate::image::ReadAt;
@@ -81,12 +83,37 @@ impl Volume {
         ensures reads { (ended : Bool) × Reads (has_fault is_read_failure result) ended
             (S.counts source.old) (S.counts source.new) }
     {
+        let mut derive = WithArgon2::new(alloc);
+        Volume::open_counted(alloc, options, source, pass, &mut derive, &mut Work::new(0))
+    }
+
+    /// Opens a volume by a passphrase, as [`Volume::open_from`] does, and counts what that costs:
+    /// the evaluations of HMAC in `work`, and the blocks of 1 KiB that Argon2 fills in `derive`.
+    ///
+    /// What counts are the key slots that are tried, up to the first that opens or the one for
+    /// which memory is refused. `derive` keeps its memory, so that several passphrases share it.
+    pub fn open_counted<S: Source>(
+        alloc: Global,
+        options: &Options,
+        source: &mut S,
+        pass: &[u8],
+        derive: &mut WithArgon2,
+        work: &mut Work,
+    ) -> Result<Volume, VolumeFault>
+        ensures answers { IfKnown (S.to_come source.old) (λ known. EndsOpening options.now known
+            pass.now result (S.to_come source.new)) }
+        ensures costs { IfKnown (S.to_come source.old) (λ known. CountsOfImage
+            (reader_for options.now.location) (allowed_by options.now) known pass.now result
+            (record { work = work.old; blocks = derive.old })
+            (record { work = work.new; blocks = derive.new })) }
+        ensures reads { (ended : Bool) × Reads (has_fault is_read_failure result) ended
+            (S.counts source.old) (S.counts source.new) }
+    {
         let mut found = find_volume(alloc, options.location, allowed_by(options), source)?;
         if pass.len() > MAX_PASSPHRASE_LEN {
             return Err(VolumeFault::Passphrase(PassphraseFault::TooLong));
         }
-        let mut derive = WithArgon2::new(alloc);
-        let unlocked = try_slots(&mut found, source, &mut derive, pass, &mut Work::new(0))?;
+        let unlocked = try_slots(&mut found, source, derive, pass, work)?;
         let keys = ExpandedKeys::new(unlocked.segment.mode, unlocked.key.as_slice());
         Ok(Volume { unlocked, keys })
     }

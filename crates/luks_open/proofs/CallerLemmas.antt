@@ -1,24 +1,21 @@
 -- Properties of the key slots to be tried, in their order, and of their key material, for this crate and its callers.
-use Rattle.std.proofs.Common.{◌≡◌, ◌∙◌, ℕ, ◌+◌, ◌*◌, ◌/◌, ◌==◌, ◌<◌, ◌≤◌, max, Bool, true, false, List, [], ◌∷◌, ◌++◌}
-use Rattle.std.proofs.Common.{length, take, drop, get_or, Option, Some, None, Ok, IsOk, IsSome, refl, sym, ap, subst}
+use Rattle.std.proofs.Common.{◌≡◌, ◌∙◌, ℕ, ◌+◌, ◌==◌, ◌<◌, ◌≤◌, max, Bool, true, false, List, [], ◌∷◌, ◌++◌}
+use Rattle.std.proofs.Common.{length, drop, get_or, Option, Some, None, Ok, IsOk, IsSome, refl, sym, ap, subst}
 use Rattle.std.proofs.Common.{arith}
-use Rattle.std.specs.Prelude.{if◌then◌else◌, is_none, is_some, ok_or, option_and_then, option_map, slice_index_or, sum_by}
+use Rattle.std.specs.Prelude.{if◌then◌else◌, is_none, is_some, option_and_then, option_map, slice_index_or}
 use Rattle.std.specs.List.{AllByRecursion, All}
 use Rattle.std.specs.Option.{option_or}
 use Rattle.std.proofs.lemmas.Bool.{eq-eqb}
 use Rattle.std.proofs.lemmas.List.{drop_more}
 use Rattle.std.proofs.lemmas.List.Elements.{All-from_recursion, recursion_from_All}
 use Rattle.std.proofs.lemmas.Option.{same_Some}
-use Rattle.luks_kdf.specs.Stripes.{merged}
 use Rattle.luks_kdf.specs.declared.hash.Hash.{Hash}
 use Rattle.luks_format.specs.Area.{max_loaded_len}
-use Rattle.luks_format.proofs.FieldLemmas.{at_prefix}
-use Rattle.luks_cipher.specs.Sector.{Cipher, is_mode_key_length, sector_decrypted}
+use Rattle.luks_cipher.specs.Sector.{is_mode_key_length}
 use Rattle.luks_cipher.specs.declared.mode.Mode.{Mode}
 use Rattle.luks_cipher.proofs.ModeLemmas.{key_length_of_mode}
-use Rattle.luks_cipher.proofs.UnitsUndone.{joined_same}
 use Rattle.luks_format.specs.Derivation.{IsDerivable, is_allowed}
-use Rattle.luks_format.specs.Rule.{max_slots, key_material_len}
+use Rattle.luks_format.specs.Rule.{max_slots}
 use Rattle.luks_format.specs.Slot.{material_end, verdict_kind_of}
 use Rattle.luks_format.specs.Table.{ascending}
 use Rattle.luks_format.specs.declared.derivation.Argon2Limits.{Argon2Limits}
@@ -40,15 +37,14 @@ use Rattle.luks_header.specs.HeaderSegment.{segment_of}
 use Rattle.luks_header.specs.SlotVerdicts.{can_be_tried, verdict_within}
 use Rattle.luks_header.specs.declared.header.Header.{Header}
 use Rattle.luks_header.proofs.KnownLemmas.{IsKnown, before_payload, known_usable}
-use Rattle.luks_open.specs.Candidate.{candidate_by, candidate_of, decrypted_material, derived_by, material_sector}
+use Rattle.luks_open.specs.Candidate.{candidate_by, candidate_of, derived_by}
 use Rattle.luks_open.specs.Candidate.{matches_digest, recovered}
 use Rattle.luks_open.specs.Deriving.{IsPbkdf2}
-use Rattle.luks_open.specs.Opening.{first_opening, slot_key, opening_of, OrderModel}
+use Rattle.luks_open.specs.Opening.{first_opening, slot_key, OrderModel}
 use Rattle.luks_open.specs.Opening.{entry_with_priority, key_material_end, order_within, order_of_named}
-use Rattle.luks_open.specs.Opening.{skipped_at, tried_with, unless_none, evaluations_of, tried_of, work_of}
+use Rattle.luks_open.specs.Opening.{skipped_at, tried_with, unless_none}
 use Rattle.luks_open.specs.Trial.{IsTriable}
 use Rattle.luks_open.specs.declared.entry.Entry.{Entry}
-use Rattle.luks_open.specs.declared.fault.OpenFault.TheVariants.{NoKey}
 use Rattle.luks_open.specs.declared.opening.Opened.{Opened}
 use Rattle.luks_open.proofs.MaterialLemmas.{length-recovered}
 
@@ -247,74 +243,13 @@ key_areas_before_payload header segment named limits order attached is_segment i
     let is = each_of_header header named limits order is_order k d below in
     before_payload header segment limits entry.number entry.slot attached is_segment is.usable))
 
--- key material that ends at or before offset n gives the same key from the first n bytes alone
-recovered_prefix : (af : Hash) (cipher : Cipher) (image : List ℕ) (offset key_bytes stripes n : ℕ)
-    → offset + key_material_len key_bytes stripes ≤ n → recovered af cipher (take n image) offset key_bytes stripes
-    ≡ recovered af cipher image offset key_bytes stripes
-unfolding recovered decrypted_material
-recovered_prefix af cipher image offset key_bytes stripes n before =
-    let sectors : (i : ℕ) → i < key_material_len key_bytes stripes / 512
-    → material_sector cipher (take n image) offset i ≡ material_sector cipher image offset i =
-    λ i below. ap (sector_decrypted cipher.0 cipher.1 i) (at_prefix (offset + 512 * i) 512 n image (omega arith)) in
-    ap (λ material. merged af key_bytes (take (key_bytes * stripes) material))
-    (joined_same _ _ (key_material_len key_bytes stripes / 512) sectors)
-
 -- the candidate, if it matches the digest
-abbrev if_matches_digest : KeyDigest → Option (List ℕ) → Option (List ℕ)
+abbrev pub if_matches_digest : KeyDigest → Option (List ℕ) → Option (List ℕ)
 if_matches_digest digest = option_and_then (λ key. if matches_digest digest key then Some key else None)
 
 -- this key slot if it opens, or else the further one that opens
 abbrev pub opened_or : ℕ → Option (List ℕ) → Option Opened → Option Opened
 opened_or number key = option_or (option_map (λ k. record { slot = number; key = k }) key)
-
--- a key slot whose key material ends at or before offset n gives the same volume key from the first n bytes alone
-key_prefix : (entry : Entry) (n : ℕ) (image pass : List ℕ) → material_end entry.slot.parts ≤ n
-    → slot_key entry (take n image) pass ≡ slot_key entry image pass
-unfolding slot_key candidate_of
-key_prefix entry n image pass before =
-    let parts = entry.slot.parts in
-    ap (if_matches_digest entry.slot.digest)
-    (of_read (derived_by parts.derivation pass parts.salt parts.area_key_bytes) parts.af_hash parts.area_mode)
-  where
-    of_read : (area_key : Option (List ℕ)) (af : Option Hash) (mode : Option Mode)
-        → candidate_by area_key af mode entry.slot.parts (take n image)
-        ≡ candidate_by area_key af mode entry.slot.parts image
-    of_read (Some area_key) (Some af) (Some mode) =
-        let parts = entry.slot.parts in
-        ap Some (recovered_prefix af (mode, area_key) image parts.area_offset parts.key_bytes parts.stripes n before)
-    of_read _ _ _ = refl
-
--- the bytes of the image after the key material do not change what a passphrase opens
-pub opening_prefix : (order : OrderModel) (n : ℕ) (image pass : List ℕ) → key_material_end order.entries ≤ n
-    → opening_of order (take n image) pass ≡ opening_of order image pass
-unfolding opening_of first_opening
-opening_prefix order n image pass loaded =
-    ap (λ (first : Option Opened). ok_or first (NoKey order.skipped))
-    (of_entries order.entries (All-key_material_end n order.entries loaded))
-  where
-    of_entries : (entries : List Entry) → AllByRecursion (λ (entry : Entry). material_end entry.slot.parts ≤ n) entries
-        → first_opening entries (take n image) pass ≡ first_opening entries image pass
-    of_entries [] ends = refl
-    of_entries (entry ∷ entries) ends =
-        ap (λ (key : Option (List ℕ)). opened_or entry.number key (first_opening entries (take n image) pass))
-        (key_prefix entry n image pass ends.0)
-        ∙ ap (opened_or entry.number (slot_key entry image pass)) (of_entries entries ends.1)
-
--- nor what trying the key slots costs
-pub work_prefix : (order : OrderModel) (n : ℕ) (image pass : List ℕ) → key_material_end order.entries ≤ n
-    → work_of order (take n image) pass ≡ work_of order image pass
-unfolding work_of tried_of
-work_prefix order n image pass loaded =
-    ap (sum_by evaluations_of) (of_entries order.entries (All-key_material_end n order.entries loaded))
-  where
-    of_entries : (entries : List Entry) → AllByRecursion (λ (entry : Entry). material_end entry.slot.parts ≤ n) entries
-        → tried_of entries (take n image) pass ≡ tried_of entries image pass
-    of_entries [] ends = refl
-    of_entries (entry ∷ entries) ends =
-        ap (λ (key : Option (List ℕ)). entry
-        ∷ (if is_some key then [] else tried_of entries (take n image) pass)) (key_prefix entry n image pass ends.0)
-        ∙ ap (λ (further : List Entry). entry ∷ (if is_some (slot_key entry image pass) then [] else further))
-        (of_entries entries ends.1)
 
 -- the candidate of a key slot is as long as the slot says
 candidate_length : (slot : Slot) (image pass key : List ℕ) → IsTriable (length image) slot

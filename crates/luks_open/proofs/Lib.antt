@@ -1,5 +1,7 @@
 pub mod CallerLemmas
+pub mod CostLemmas
 pub mod DerivingLemmas
+pub mod LoadedLemmas
 pub mod MaterialLemmas
 pub mod OpeningLemmas
 pub mod PrefixLemmas

@@ -24,7 +24,7 @@ use Rattle.luks_open.specs.declared.fault.PassphraseFault.TheVariants.{Memory as
 use Rattle.luks_open.specs.declared.fault.VolumeFault.{VolumeFault}
 use Rattle.luks_open.specs.declared.fault.VolumeFault.TheVariants.{Header as HeaderNotRead, KeyAreaCut, Passphrase}
 use Rattle.luks_open.specs.declared.fault.VolumeFault.TheVariants.{Argon2Memory, Segment as SegmentRefused, Slots}
-use Rattle.luks_open.proofs.CallerLemmas.{opening_prefix, work_prefix}
+use Rattle.luks_open.proofs.LoadedLemmas.{opening_prefix, work_prefix}
 use Rattle.luks_open.specs.declared.opening.Opened.{Opened}
 use Rattle.luks_open.specs.declared.allowed.AllowedSlots.{AllowedSlots}
 use Rattle.luks_open.proofs.VolumeLemmas.{header_read_len_within}

@@ -7,7 +7,8 @@ use Rattle.luks_format.specs.Area.{max_loaded_len}
 use Rattle.luks_header.specs.Header.{header_read_len, header_of}
 use Rattle.luks_header.proofs.HorizonLemmas.{header_of_start}
 use Rattle.luks_open.specs.Opening.{key_material_end}
-use Rattle.luks_open.proofs.CallerLemmas.{opening_prefix, key_material_end-within}
+use Rattle.luks_open.proofs.CallerLemmas.{key_material_end-within}
+use Rattle.luks_open.proofs.LoadedLemmas.{opening_prefix}
 use Rattle.luks_open.specs.declared.fault.VolumeFault.{VolumeFault}
 use Rattle.luks_open.specs.declared.allowed.AllowedSlots.{AllowedSlots}
 use Rattle.luks_open.specs.Location.{reader_for, as_detached}

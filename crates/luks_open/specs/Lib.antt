@@ -1,5 +1,6 @@
 pub mod Allowed
 pub mod Candidate
+pub mod Costs
 pub mod Deriving
 pub mod Fault
 pub mod KeyFile

@@ -87,11 +87,8 @@ pub fn pbkdf2_key(how: Derivation, pass: &[u8], salt: &[u8], len: usize, work: &
     ensures work { work.new ≡ capped (work.old + evaluations_by how len) }
     ensures filled { blocks_by how ≡ 0 }
 {
-    match how {
-        Derivation::Pbkdf2(Some(hash), iterations) => {
-            Key::derived(hash, pass, salt, iterations as u32, len, work)
-        }
-        Derivation::Pbkdf2(None, _) => unreachable!(),
-        Derivation::Argon2(_) => unreachable!(),
-    }
+    let Derivation::Pbkdf2(Some(hash), iterations) = how else {
+        unreachable!();
+    };
+    Key::derived(hash, pass, salt, iterations as u32, len, work)
 }
