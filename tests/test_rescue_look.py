@@ -405,6 +405,7 @@ def test_no_room_for_a_copy(rescue, laptop, tmp_path):
     assert "without a copy of 8 TiB, and here are " in text_of(rescue, "disk.img")
 
 
+@pytest.mark.of_script
 def test_several_images(rescue, laptop, tmp_path):
     """The greatest status is returned, and each image is looked at."""
     copy_of(laptop.disk, tmp_path / "laptop.img")
@@ -425,8 +426,10 @@ AT_A_BYTE, IN_A_SEARCH = r"at byte \d+: Input/output error", "while it was searc
 
 
 @pytest.mark.parametrize("options, places, where", [
-    ([], (0, 512), AT_A_BYTE), ([], (PLACES["luks"], 512), AT_A_BYTE), ([], (PLACES["luks"] + 16384, 4096), AT_A_BYTE),
-    (["--search"], (4 * MIB, 512), IN_A_SEARCH)], ids=["the table", "the header", "the other header", "a search"])
+    pytest.param([], (0, 512), AT_A_BYTE, marks=pytest.mark.of_script),
+    pytest.param([], (PLACES["luks"], 512), AT_A_BYTE, marks=pytest.mark.of_script),
+    ([], (PLACES["luks"] + 16384, 4096), AT_A_BYTE), (["--search"], (4 * MIB, 512), IN_A_SEARCH)],
+    ids=["the table", "the header", "the other header", "a search"])
 def test_a_failed_read(rescue, laptop, bad_sectors, tmp_path, options, places, where):
     """It says how to make an image first."""
     image = copy_of(laptop.disk, tmp_path / "disk")
