@@ -41,25 +41,31 @@ def test_header_alone(rescue, kinds, tmp_path, image, role):
 
 
 @each_with_a_payload
-def test_whole(rescue, luks_cat, kinds, kind):
+@needs("cc")
+def test_whole(rescue, luks_cat, kinds, kind, bad_sectors):
+    """Also if each read and each write is a short one."""
     header = ["--header", kinds / kind.header] if kind.header else []
-    ended = rescue("decrypt", kinds / kind.image, "--key-file", kinds / kind.key, *header, "-o", "plain")
     wanted = luks_cat("--key-file", kinds / kind.key, *header, kinds / kind.image)
-    assert ended.status == wanted.status == (4 if kind.message else 0), ended
-    assert kind.message.removeprefix("luksrd: ") in ended.message
-    assert shown((rescue.folder / "plain").read_bytes()) == shown(wanted.output) == shown(kinds.text(kind.image))
-    assert not (rescue.folder / "plain.map").exists()
+    for env in {}, bad_sectors(kinds / kind.image, [], most=1000):
+        ended = rescue("decrypt", kinds / kind.image, "--key-file", kinds / kind.key, *header, "-o", "plain", "--force",
+                       env=env)
+        assert ended.status == wanted.status == (4 if kind.message else 0), ended
+        assert kind.message.removeprefix("luksrd: ") in ended.message
+        assert shown((rescue.folder / "plain").read_bytes()) == shown(wanted.output) == shown(kinds.text(kind.image))
+        assert not (rescue.folder / "plain.map").exists()
 
 
 @each_with_a_payload
-def test_ranges(rescue, kinds, kind):
+@needs("cc")
+def test_ranges(rescue, kinds, kind, bad_sectors):
     header = ["--header", kinds / kind.header] if kind.header else []
     chance, wanted = random.Random(kind.image), kinds.text(kind.image)
     for number in range(4):
         start = chance.randrange(len(wanted) + 1)
         length = chance.choice((0, 1, 511, 512, 4097, len(wanted))) % (len(wanted) - start + 1)
         ended = rescue("decrypt", kinds / kind.image, "--key-file", kinds / kind.key, *header, "--quiet", "--range",
-                       f"{start}:{length}", "-o", f"part{number}")
+                       f"{start}:{length}", "-o", f"part{number}",
+                       env=bad_sectors(kinds / kind.image, [], most=1000) if number % 2 else {})
         assert ended.status in (0, 4), ended
         assert shown((rescue.folder / f"part{number}").read_bytes()) == shown(wanted[start:start + length])
 
