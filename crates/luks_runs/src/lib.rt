@@ -1,5 +1,4 @@
-//! The parts of runs: what a run is, the commands on headers and stripes, the key file, opening a
-//! volume by a passphrase, and forwarding the payload.
+//! The parts of runs: what a run is, the commands on headers and stripes, and writing the payload.
 #![tactic(auto)]
 
 pub mod headers;
