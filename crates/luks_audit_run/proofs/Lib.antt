@@ -4,3 +4,4 @@ pub mod RunLemmas
 pub mod SearchLemmas
 pub mod SearchedLemmas
 pub mod StartLemmas
+pub mod TextLemmas
