@@ -12,7 +12,7 @@ from argon2_slots import Cost, rewrite
 from serving import connected, read
 from support import NO_KEY, TOP, expect, must, needs, run, runs_v3
 from test_plugin import found
-from volumes import PASS, copy_of, cryptsetup
+from volumes import PASS, PASS2, copy_of, cryptsetup
 
 pytestmark = needs("argon2", "cryptsetup", "gcc", "nbdkit", "nbdcopy")
 SKIPPED = "luksrd: no key slot can be tried; skipped: 0 ({})"
@@ -413,6 +413,17 @@ def test_memory_of_opening(program, volume, tmp_path, kib):
     assert (ended.status, ended.output.split()[1]) == (0, b"wiped")
     assert used <= kib + 16_000_000 // 1024
     assert kib < 1024 or used >= kib, "the memory was not filled"
+
+
+def test_one_memory_at_a_time(program, volume, tmp_path):
+    """The first slot is tried in 64 MiB. The second, which opens, gets its 65 MiB after these were freed."""
+    image = copy_of(volume("argon2id, 64 MiB"), tmp_path / "two")
+    cryptsetup("luksAddKey --pbkdf pbkdf2 --pbkdf-force-iterations 1000 --key-slot 1 --key-file",
+               volumes.passphrases(tmp_path) / "pass", image, tmp_path / "pass2")
+    rewrite(image, "1", PASS2, PASS2, Cost("argon2id", 2, 65 << 10, 1))
+    ended = run(*program, "memory", image, tmp_path / "pass2", stdin=b"\n\n")
+    assert ended.status == 0
+    assert 65 << 10 <= int(ended.output.split()[0]) <= (65 << 10) + 16_000_000 // 1024
 
 
 @pytest.mark.parametrize("name, gib", [("C, x86-64-v3", 2), ("plugin", 1)])

@@ -310,6 +310,44 @@ fn the_library_opens_volumes_within_the_limits(rt: HostRuntime) {
     }
 }
 
+// The library counts the same, in the memory of the passphrase before.
+#[test]
+fn the_library_counts_what_opening_costs(rt: HostRuntime) {
+    let image = image(&rt);
+    let mut derive = WithArgon2::new(rt.alloc());
+    for (pass, named, slot, evaluations, blocks) in &OPENINGS {
+        let mut work = Work::new(0);
+        let before = derive.filled_blocks();
+        let options = Options {
+            location: HeaderLocation::Attached,
+            slots: SlotChoice {
+                named: *named,
+                max_iterations: None,
+            },
+            argon2: within(u32::MAX, u64::MAX).argon2,
+        };
+        let mut source = MemSource::new(&image);
+        let answer = Volume::open_counted(
+            rt.alloc(),
+            &options,
+            &mut source,
+            pass,
+            &mut derive,
+            &mut work,
+        );
+        let opens = match (&answer, slot) {
+            (Ok(volume), Some(slot)) => volume.slot() == *slot,
+            (Err(VolumeFault::Slots(OpenFault::NoKey(_))), None) => true,
+            _ => false,
+        };
+        let counts = [work.count(), derive.filled_blocks().saturating_sub(before)];
+        assert!(rt;
+            opens && counts == [*evaluations, *blocks],
+            "{slot:?}: {counts:?}"
+        );
+    }
+}
+
 // The memory of one passphrase serves for the next, and what was counted stays.
 #[test]
 fn several_passphrases_share_one_memory(rt: HostRuntime) {
