@@ -1,8 +1,10 @@
 -- Without magic bytes there is no header.
+use Rattle.std.proofs.Common.{rules}
+use Rattle.std.proofs.lemmas.Grind.{common_steps}
 use Rattle.std.proofs.Common.{◌≡◌, ◌∙◌, ℕ, ◌+◌, ◌*◌, ◌<◌, ◌≤◌, ◌++◌}
 use Rattle.std.proofs.Common.{List, [], ◌∷◌, Bool, true, false, None, ap, sym}
 use Rattle.std.proofs.Common.{refl, length, take, drop, arith, Err, ◌==◌}
-use Rattle.std.specs.Prelude.{map, nat_le, nat_lt, if◌then◌else◌, ok_or, option_and_then}
+use Rattle.std.specs.Prelude.{map, nat_le, if◌then◌else◌, ok_or, option_and_then}
 use Rattle.std.specs.List.{find, list_all, list_any}
 use Rattle.std.proofs.lemmas.Bool.{and_parts, false_from_ne_true, leb-true, ltb-false, ltb-true, or_parts}
 use Rattle.std.proofs.lemmas.List.{drop-drop, drop_all, take-append-le, take-take}
@@ -23,25 +25,17 @@ use Rattle.luks_search.specs.Places.{found_in}
 begins_by : (bytes : List ℕ) (p q : ℕ)
     → take 8 bytes ≡ 0x4c ∷ 0x55 ∷ 0x4b ∷ 0x53 ∷ 0xba ∷ 0xbe ∷ p ∷ q ∷ [] → begins_magic bytes ≡ true
 unfolding begins_magic
-begins_by bytes p q e =
-    let six : take 6 bytes ≡ 0x4c ∷ 0x55 ∷ 0x4b ∷ 0x53 ∷ 0xba ∷ 0xbe ∷ [] =
-    sym (take-take 6 8 bytes (omega arith)) ∙ ap (take 6) e in
-    rw six refl
+begins_by bytes p q e = grind (arith, common_steps, take-take)
 
 begins_by_second : (bytes : List ℕ) (p q : ℕ)
     → take 8 bytes ≡ 0x53 ∷ 0x4b ∷ 0x55 ∷ 0x4c ∷ 0xba ∷ 0xbe ∷ p ∷ q ∷ [] → begins_magic bytes ≡ true
 unfolding begins_magic
-begins_by_second bytes p q e =
-    let six : take 6 bytes ≡ 0x53 ∷ 0x4b ∷ 0x55 ∷ 0x4c ∷ 0xba ∷ 0xbe ∷ [] =
-    sym (take-take 6 8 bytes (omega arith)) ∙ ap (take 6) e in
-    rw six refl
+begins_by_second bytes p q e = grind (arith, common_steps, take-take)
 
 -- a LUKS1 header begins with them
 pub first_magic : (bytes : List ℕ) → begins_magic bytes ≡ false → is_luks1 bytes ≡ false
 unfolding is_luks1
-first_magic bytes none = false_from_ne_true _ (λ is.
-    let e : take 8 bytes ≡ 0x4c ∷ 0x55 ∷ 0x4b ∷ 0x53 ∷ 0xba ∷ 0xbe ∷ 0x00 ∷ 0x01 ∷ [] = (bytes_eq-Decides _ _).0 is in
-    let wrong : true ≡ false = sym (begins_by bytes 0x00 0x01 e) ∙ none in cc)
+first_magic bytes none = grind (arith, common_steps, false_from_ne_true, bytes_eq-Decides, begins_by)
 
 -- so does a binary header of LUKS2
 pub fits_magic : (bytes : List ℕ) (offset : ℕ) → begins_magic (drop offset bytes) ≡ false → fits bytes offset ≡ false
@@ -53,8 +47,7 @@ fits_magic bytes offset none = false_from_ne_true _ (λ is.
     let two = and_parts _ _ three.0 in
     let one = and_parts _ _ two.0 in
     let e = (bytes_eq-Decides _ _).0 one.0 in
-    let cut : take 8 (take 4096 (drop offset bytes)) ≡ take 8 (drop offset bytes) =
-    take-take 8 4096 (drop offset bytes) (omega arith) in
+    let cut : take 8 (take 4096 (drop offset bytes)) ≡ take 8 (drop offset bytes) = search (rules, take-take) in
     by (offset == 0) (sym cut ∙ e))
   where
     by : (first : Bool)
@@ -81,8 +74,7 @@ quiet_none bytes none =
     let unfit : (offset : ℕ) → begins_magic (drop offset bytes) ≡ false → is_valid bytes offset ≡ false =
     λ offset quiet. unfit-is_valid bytes offset (fits_magic bytes offset quiet) in
     let first : is_valid bytes 0 ≡ false = unfit 0 parts.0 in
-    let search : find (is_valid bytes) sizes ≡ None =
-    find_none (λ size. begins_magic (drop size bytes)) (is_valid bytes) sizes unfit parts.1 in
+    let search : find (is_valid bytes) sizes ≡ None = grind (arith, common_steps, find_none) in
     let chosen : chosen2_of bytes ≡ None =
     chosen_other bytes first ∙ ap (option_and_then (found_at bytes)) search in
     ap found_in (header_other bytes (first_magic bytes parts.0) (Err NotLuks)
@@ -127,17 +119,8 @@ quiet_at image j none =
     first : 512 * j ≡ 512 * (j + 0)
     first = omega arith
 
--- nothing does not begin with the magic bytes
-nothing_begins : begins_magic [] ≡ false
-unfolding begins_magic
-nothing_begins = refl
-
 -- if none of the first n sectors begins with the magic bytes, and these are all, none does
 pub quiet_all : (bytes : List ℕ) (n : ℕ) → length bytes ≤ 512 * n
     → ((k : ℕ) → k < n → begins_magic (drop (512 * k) bytes) ≡ false) → IsQuiet bytes
-quiet_all bytes n all none k = by (nat_lt k n) refl where
-  by : (b : Bool) → nat_lt k n ≡ b → begins_magic (drop (512 * k) bytes) ≡ false
-  by true e = none k (ltb-true k n e)
-  by false e =
-      let behind = ltb-false k n e in
-      ap begins_magic (drop_all (512 * k) bytes (omega (arith, behind, all))) ∙ nothing_begins
+unfolding begins_magic
+quiet_all bytes n all none k = grind (arith, common_steps, ltb-true, ltb-false, drop_all)

@@ -1,8 +1,9 @@
 -- Places of headers, sector by sector.
+use Rattle.std.proofs.lemmas.Grind.{common_steps}
 use Rattle.std.proofs.Common.{◌≡◌, ◌∙◌, ℕ, zero, suc, ◌+◌, ◌-◌, ◌*◌, ◌<◌, ◌≤◌}
 use Rattle.std.proofs.Common.{◌++◌, List, [], ◌∷◌, Bool, true, false, ap, sym}
 use Rattle.std.proofs.Common.{Option, Some, None, refl, length, take, drop}
-use Rattle.std.proofs.Common.{arith, Result, Ok, Err, add-one, length-append, length-drop}
+use Rattle.std.proofs.Common.{arith, Result, Ok, add-one, length-append, length-drop}
 use Rattle.std.proofs.Common.{◌⊎◌, inl, inr, min, append_assoc}
 use Rattle.std.proofs.lemmas.List.{append-nil, drop-append-le, drop-drop, nil_from_length}
 use Rattle.std.proofs.lemmas.List.{drop_all, take-append-drop, take-append-le}
@@ -41,26 +42,19 @@ places_none image n (suc count) none =
     let before = places_none image n count (λ j below. none j (omega (arith, below))) in
     let last : n + suc count ≡ (n + count) + 1 = omega arith in
     let here = none count (omega arith) in
-    ap (places_below image) last ∙ places_more image (n + count)
-    ∙ ap (λ found. places_below image (n + count) ++ place_if (512 * (n + count)) found) here
-    ∙ append-nil (places_below image (n + count)) ∙ before
+    grind (arith, common_steps, places_more, append-nil)
 
 -- no place is after the image's end
 past_end : (image : List ℕ) (n : ℕ) → sectors_in image ≤ n
     → places_below image (sectors_in image) ≡ places_below image n
 past_end image n few =
     let all : sectors_in image + (n - sectors_in image) ≡ n = omega (arith, few) in
-    sym (ap (places_below image) (sym all) ∙ places_none image (sectors_in image) (n - sectors_in image) (λ j below.
-    ap (λ bytes. found_in (header_of bytes)) (drop_all (512 * (sectors_in image + j)) image (omega arith))
-    ∙ nothing_none))
+    grind (arith, common_steps, places_none, drop_all, nothing_none)
 
 -- a search that has come to the image's end has found all its places
 pub places_end : (image : List ℕ) (n : ℕ) → n ≤ max_searched_sectors → length image ≤ 512 * n
     → places_of image ≡ places_below image n
-places_end image n bound end =
-    let few : sectors_in image ≤ n = omega (arith, end) in
-    let all : min (sectors_in image) max_searched_sectors ≡ sectors_in image = omega (arith, few, bound) in
-    ap (places_below image) all ∙ past_end image n few
+places_end image n bound end = grind (arith, common_steps, past_end)
 
 -- so has one that has tried all sectors that are searched, however long the image is
 pub behind_all : (image : List ℕ) → places_of image ≡ places_below image max_searched_sectors
@@ -77,8 +71,7 @@ behind_all image = by (nat_le (sectors_in image) max_searched_sectors) refl wher
       ap (places_below image) all
 
 found_ok : (read : Result Header HeaderFault) (header : Header) → found_in read ≡ Some header → read ≡ Ok header
-found_ok (Ok found) header e = (let same : found ≡ header = cc in ap Ok same)
-found_ok (Err fault) header e = absurd cc
+found_ok x0 header e = grind (arith, common_steps)
 
 -- ---- a search
 
@@ -114,12 +107,7 @@ module _ (image : List ℕ) (search : SearchModel) (left : Option (List ℕ)) (i
   advanced_in count (inl ended) = record {
     rest = is.rest;
     left_is = is.left_is;
-    here = ap (λ n. drop n image) same
-        ∙ sym (drop-drop (512 * count) (512 * search.sector) image)
-        ∙ ap (drop (512 * count)) (is.here ∙ ap (λ rest. search.bytes ++ rest) (is.ends ended)
-        ∙ append-nil search.bytes)
-        ∙ sym (append-nil (drop (512 * count) search.bytes))
-        ∙ ap (λ rest. drop (512 * count) search.bytes ++ rest) (sym (is.ends ended));
+    here = grind (arith, common_steps, drop-drop, append-nil);
     ends = is.ends;
   } where
     same : 512 * (search.sector + count) ≡ 512 * search.sector + 512 * count
@@ -128,18 +116,13 @@ module _ (image : List ℕ) (search : SearchModel) (left : Option (List ℕ)) (i
   -- the header at the next sector is that of the loaded bytes
   pub here_is : (search.ended ≡ true) ⊎ (8388608 ≤ length search.bytes)
       → header_at image (512 * search.sector) ≡ header_of search.bytes
-  here_is (inl ended) =
-      ap header_of (is.here ∙ ap (λ rest. search.bytes ++ rest) (is.ends ended) ∙ append-nil search.bytes)
-  here_is (inr long) = ap header_of is.here ∙ header_by_start search.bytes is.rest long
+  here_is x0 = grind (arith, common_steps, append-nil, header_by_start)
 
   -- if no loaded sector begins with the magic bytes, a sector that is loaded as far as it may reach has no header
   module _ (quiet : IsQuiet search.bytes) where
     none_begins : (j : ℕ) → 512 * j + 6 ≤ length search.bytes
         → begins_magic (drop (512 * (search.sector + j)) image) ≡ false
-    none_begins j within =
-        ap begins_magic (ahead_is j (omega (arith, within)))
-        ∙ six_decide (drop (512 * j) search.bytes) is.rest (omega (arith, within, length-drop (512 * j) search.bytes))
-        ∙ quiet j
+    none_begins j within = grind (arith, common_steps, ahead_is, six_decide, length-drop)
 
     no_header : (j : ℕ) → 512 * j + 4194310 ≤ length search.bytes
         → found_in (header_at image (512 * (search.sector + j))) ≡ None
@@ -154,8 +137,7 @@ module _ (image : List ℕ) (search : SearchModel) (left : Option (List ℕ)) (i
     -- so no place is among sectors that were left behind
     pub skipped_none : (count : ℕ) → 512 * count + 4194304 ≤ length search.bytes
         → places_below image (search.sector + count) ≡ places_below image search.sector
-    skipped_none count loaded =
-        places_none image search.sector count (λ j below. no_header j (omega (arith, below, loaded)))
+    skipped_none count loaded = grind (arith, common_steps, places_none, no_header)
 
   -- there are no further bytes
   pub nothing_left : search.sector ≤ max_searched_sectors → search.bytes ≡ [] → search.ended ≡ true
@@ -186,8 +168,7 @@ module _ (image : List ℕ) (search : SearchModel) (left : Option (List ℕ)) (i
   tried_in = advanced_in image search left is 1 (by enough) where
     by : (search.ended ≡ true) ⊎ (8388608 ≤ length search.bytes)
         → (search.ended ≡ true) ⊎ (512 * 1 ≤ length search.bytes)
-    by (inl ended) = inl ended
-    by (inr long) = inr (omega (arith, long))
+    by x0 = grind (arith, common_steps)
 
   pub tried_none : found_in (header_of search.bytes) ≡ None
       → places_below image (search.sector + 1) ≡ places_below image search.sector
@@ -219,10 +200,7 @@ pub loaded_in : (image bytes buffer known : List ℕ) (left : Option (List ℕ))
 loaded_in image bytes buffer known left sector kept count here front consumed all = record {
   rest = drop count known;
   left_is = consumed.0.left;
-  here = here ∙ ap (λ more. bytes ++ more) (sym (take-append-drop count known))
-      ∙ sym (append_assoc bytes (take count known) (drop count known))
-      ∙ ap (λ start. start ++ drop count known) (sym (take-add kept count buffer
-      ∙ ap (λ start. start ++ take count (drop kept buffer)) front ∙ ap (λ more. bytes ++ more) consumed.1));
+  here = grind (arith, common_steps, take-append-drop, append_assoc, take-add);
   ends = λ end.
       (let short = ltb-true (kept + count) 33554432 end in drop_all count known (omega (arith, all, short)));
 }
@@ -259,5 +237,4 @@ failed_near image bytes buffer known left sector got here few consumed = record 
 
 -- what holds anyway holds if there is a fault
 pub on_fault : {T E : Type 0} (P : Type 0) (result : Result T E) → P → OnErr result P
-on_fault P (Ok _) holds = tt
-on_fault P (Err _) holds = holds
+on_fault x0 x1 holds = grind (arith, common_steps)

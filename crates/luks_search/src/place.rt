@@ -76,12 +76,7 @@ pub(crate) fn header_here(alloc: Global, bytes: &[u8]) -> Result<Option<Header>,
     }
     match header_of_bytes(alloc, bytes) {
         Ok(header) => Ok(Some(header)),
-        Err(fault) => match fault {
-            HeaderFault::NotLuks => Ok(None),
-            HeaderFault::Cut => Ok(None),
-            HeaderFault::Json => Ok(None),
-            HeaderFault::Read => unreachable!(),
-            HeaderFault::Memory => Err(SearchFault::Memory),
-        },
+        Err(HeaderFault::Memory) => Err(SearchFault::Memory),
+        Err(_) => Ok(None),
     }
 }
