@@ -1,5 +1,6 @@
 """luksrd-rescue decrypt: which outputs are made, and which are refused; arguments and images that cannot be."""
 import errno
+import json
 import os
 import re
 import stat
@@ -155,6 +156,8 @@ def test_standard_output_that_cannot_be_written(rescue, short, kinds, line, besi
     if "plain" in made:
         wanted = kinds.text(VOLUME1)[:512 if line.startswith(SHORT) else None]
         assert shown((rescue.folder / "plain").read_bytes()) == shown(wanted)
+    if "done" in made:  # the line that opens is tried again
+        assert json.loads((rescue.folder / "done").read_text())["lines"] == 0
 
 
 @pytest.mark.parametrize("how", [{"stderr": FULL}, {"preexec_fn": lambda: os.close(2)}], ids=["full", "closed"])

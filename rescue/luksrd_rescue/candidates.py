@@ -84,6 +84,7 @@ def lines_of(file: BinaryIO, name: str) -> Generator[Line, None, None]:
                         "is taken off, and so are others")
                 is_noted = True
             if len(line) > PASSPHRASE_BYTES:
+                terminal.wipe(line)
                 raise Refusal(USAGE, name, f"line {count} is longer than {PASSPHRASE_BYTES} bytes")
             yield Line(count, line)
     except OSError as error:

@@ -165,6 +165,7 @@ def read_key_file(name: str) -> bytearray:
     try:
         got = _read_all(descriptor, secret)
     except OSError as error:
+        wipe(secret)
         status = IMAGE if isinstance(error, IsADirectoryError) else FAILED
         raise Refusal(status, name, f"cannot read the key file: {error.strerror}") from error
     finally:
