@@ -1,10 +1,20 @@
 -- Properties of the segment of a header, and of the values that it is read from.
 use Rattle.std.proofs.lemmas.Grind.{common_steps}
-use Rattle.std.proofs.Common.{◌≡◌, ℕ, sym, refl, false, Option, Some, None, arith, ◌≢◌}
+use Rattle.std.proofs.Common.{◌≡◌, ◌∙◌, ℕ, sym, refl, true, false, Option, Some, None, arith, ◌≢◌}
 use Rattle.std.proofs.Common.{List, [], ◌∷◌, Result, Ok, String, Global, length}
-use Rattle.std.specs.Prelude.{codes, option_map, ◌==◌}
-use Rattle.std.proofs.lemmas.Bool.{ne_eqb}
-use Rattle.luks_format.proofs.MadeLemmas.{refused_or-none}
+use Rattle.std.specs.Prelude.{not, codes, is_none, is_some, option_map, ◌==◌, ◌||◌, ◌&&◌, Bool}
+use Rattle.std.proofs.lemmas.Bool.{not-false, ne_eqb}
+use Rattle.std.proofs.lemmas.Option.{none-some}
+use Rattle.luks_cipher.specs.declared.mode.Mode.{Mode}
+use Rattle.luks_format.proofs.MadeLemmas.{refused_or-none, segment_of_all-yes}
+use Rattle.luks_format.proofs.TableLemmas.{none_holds}
+use Rattle.luks_format.specs.SectorSize.{has_whole_sectors}
+use Rattle.luks_format.specs.declared.sector_size.SectorSize.{SectorSize as Sector}
+use Rattle.luks2_json.specs.Member.{decimal_member}
+use Rattle.luks2_metadata.specs.Segment2.{has_requirement, is_segment, has_segment_members, mode2_of}
+use Rattle.luks2_metadata.specs.Segment2.{sector_size_of, segment_faults, size_is_wrong, size_member}
+use Rattle.luks_format.specs.Segment.{segment_of_all}
+use Rattle.luks_format.specs.declared.refusal.SegmentFault.TheVariants.{Requirement, Segments}
 use Rattle.luks2_metadata.specs.declared.bounds.Bounds.{Bounds}
 use Rattle.luks2_metadata.specs.Segment2.{payload2_start, payload_mode2_of, fault2_of}
 use Rattle.luks2_metadata.specs.Segment2.{is_empty_array}
@@ -74,6 +84,40 @@ pub segment2-none : (tree : Data) (bounds : Bounds) (segment : Segment) → faul
     → segment_from (segment_parts2_of (segment_value tree)) ≡ Some segment → segment2_of tree bounds ≡ Ok segment
 unfolding segment2_of
 segment2-none tree bounds segment none made = refused_or-none _ _ segment none made
+
+-- ---- the segment that parts without a fault make
+
+-- parts that are all present make a segment, if its length is whole sectors or not fixed
+made_of_parts : (offset : Option ℕ) (size : Option (Option ℕ)) (iv_tweak : Option ℕ) (sector_size : Option Sector)
+    (mode : Option Mode) (encryption sized : Bool)
+    → (is_some offset && is_some size && is_some iv_tweak && encryption && sized) ≡ true
+    → is_none sector_size ≡ false → is_none mode ≡ false → size_is_wrong size sector_size ≡ false
+    → segment_of_all offset size iv_tweak sector_size mode ≢ None
+unfolding size_is_wrong
+made_of_parts (Some offset) (Some size) (Some iv_tweak) (Some sector_size) (Some mode) _ _ members z m whole none =
+    none-some _ (sym none
+    ∙ segment_of_all-yes offset size iv_tweak sector_size mode (not-false (has_whole_sectors size sector_size) whole))
+made_of_parts _ _ _ _ _ _ _ members z m whole none = absurd cc
+
+-- a valid segment of type crypt has its members
+members_there : (typed crypt members : Bool) → not (typed && (not crypt || members)) ≡ false → not crypt ≡ false
+    → members ≡ true
+members_there true true true is kind = cc
+members_there _ _ _ is kind = absurd cc
+
+-- a segment without a fault is made from its parts, so it is never refused with `Member`
+pub made2 : (tree : Data) (bounds : Bounds) → fault2_of tree bounds ≡ None
+    → segment_from (segment_parts2_of (segment_value tree)) ≢ None
+unfolding fault2_of segment_from segment_parts2_of is_segment has_segment_members
+made2 tree bounds no_fault =
+    let segment = segment_value tree in
+    let all = none_holds ((has_requirement tree, Requirement) ∷ (is_none (the_segment tree), Segments)
+    ∷ segment_faults bounds segment) no_fault in
+    let lines = all.1.1 in
+    let members = members_there _ _ _ lines.0 lines.1.0 in
+    made_of_parts (decimal_member (codes "offset") segment) (size_member segment)
+    (decimal_member (codes "iv_tweak") segment) (sector_size_of segment) (mode2_of segment) _ _ members
+    lines.1.1.1.1.0 lines.1.1.1.0 lines.1.1.1.1.1.1.0
 
 -- ---- a segment that is not refused
 

@@ -1,8 +1,8 @@
 -- Properties of a header whose segment is valid, and of a slot that there is no reason to skip.
 use Rattle.std.proofs.lemmas.Grind.{common_steps}
-use Rattle.std.proofs.Common.{◌≡◌, ◌∙◌, ℕ, ◌+◌, ◌*◌, ◌≤◌, ap, sym, subst, true, false, Option, Some}
+use Rattle.std.proofs.Common.{◌≡◌, ◌≢◌, ◌∙◌, ℕ, ◌+◌, ◌*◌, ◌≤◌, ap, sym, subst, true, false, Option, Some}
 use Rattle.std.proofs.Common.{None, Ok, arith}
-use Rattle.std.specs.Prelude.{option_and_then, slice_get}
+use Rattle.std.specs.Prelude.{is_none, option_and_then, slice_get}
 use Rattle.std.proofs.lemmas.Bool.Decides.{nat_tests}
 use Rattle.std.proofs.lemmas.Bool.{not-false}
 use Rattle.std.proofs.lemmas.Option.{same_Some}
@@ -12,7 +12,7 @@ use Rattle.luks_kdf.specs.declared.hash.Hash.{Hash}
 use Rattle.luks_format.specs.Derivation.{is_derivable, is_in_range}
 use Rattle.luks_format.specs.Rule.{exceeds, iterations_out_of_range, area_out_of_range}
 use Rattle.luks_format.specs.Rule.{stripes_out_of_range, key_material_len}
-use Rattle.luks_format.specs.Segment.{segment_from}
+use Rattle.luks_format.specs.Segment.{segment_from, segment_of_all}
 use Rattle.luks_format.specs.Slot.{digest_from, material_end, verdict_kind_of, slot_from}
 use Rattle.luks_format.specs.Table.{first_match}
 use Rattle.luks_format.proofs.MadeLemmas.{are_in_range, digest_there, mapped, of_usable, parts_made}
@@ -44,6 +44,19 @@ pub record IsReadable (header : Header1) : Type 0 where
 pub record IsSegment1 (header : Header1) (segment : Segment) : Type 0 where
   pub offset : segment.offset ≡ 512 * header.payload_offset
   pub mode : mode1_of header ≡ Some segment.mode
+
+-- if the mode is known, a segment is made
+made_in : (mode : Option Mode) (offset : ℕ) → is_none mode ≡ false
+    → segment_of_all (Some offset) (Some None) (Some 0) (Some B512) mode ≢ None
+made_in None offset known none = cc
+made_in (Some mode) offset known none = cc
+
+-- a segment without a fault is made from its parts, so it is never refused with `Member`
+pub made1 : (header : Header1) → first_match (segment_faults1 header) ≡ None
+    → segment_from (segment_parts1_of header) ≢ None
+unfolding segment_faults1 segment_from
+made1 header no_fault =
+    made_in (mode1_of header) (512 * header.payload_offset) (none_holds (segment_faults1 header) no_fault).0
 
 -- a header whose segment is valid has that segment and can be read
 pub IsReadable-ok : (header : Header1) (segment : Segment) → segment1_of header ≡ Ok segment
