@@ -90,8 +90,9 @@ impl Volume {
     /// Opens a volume by a passphrase, as [`Volume::open_from`] does, and counts what that costs:
     /// the evaluations of HMAC in `work`, and the blocks of 1 KiB that Argon2 fills in `derive`.
     ///
-    /// What counts are the key slots that are tried, up to the first that opens or the one for
-    /// which memory is refused. `derive` keeps its memory, so that several passphrases share it.
+    /// What counts are the key slots that are tried, the one that opens included, or those before
+    /// the one for which memory is refused. Clauses say this of sources that know their bytes.
+    /// `derive` keeps its memory, so that several passphrases share it.
     pub fn open_counted<S: Source>(
         alloc: Global,
         options: &Options,

@@ -81,8 +81,8 @@ pub struct PayloadRow {
     pub flags: Option<Names>,
     /// What a program that reads the volume must support.
     pub requirements: Option<Names>,
-    /// Whether a segment is not encrypted, be it that the volume is being encrypted or decrypted.
-    /// This is not listed.
+    /// Whether a segment is not encrypted, as while a volume is being encrypted or decrypted. This
+    /// is not listed.
     pub has_linear: bool,
     /// How the cipher encrypts sectors. This is not listed.
     pub mode: CipherMode,

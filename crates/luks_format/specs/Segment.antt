@@ -27,7 +27,8 @@ segment_of_all _ _ _ _ _ = None
 unfoldable pub segment_from : SegmentParts → Option Segment
 segment_from parts = segment_of_all parts.offset parts.size parts.iv_tweak parts.sector_size parts.mode
 
--- the payload's segment, or its fault: `Member` if no other was found, and a part is missing or out of range
+-- the payload's segment, or its fault. A segment without a fault has all its parts, and they are in range (`made1`,
+-- `made2`), so `Member` is never added here
 abbrev pub refused_or : Option SegmentFault → Option Segment → Result Segment SegmentFault
 refused_or fault segment = option_map_or Err fault (ok_or segment Member)
 

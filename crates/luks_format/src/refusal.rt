@@ -36,10 +36,9 @@ pub enum SkipReason {
     Argon2Cpus,
     /// The same: the memory is less than 8 KiB for each CPU, or more than 4,294,967,295 KiB.
     Argon2Memory,
-    /// The same: the memory, so much in KiB, is above the limit.
+    /// The same: the memory, here in KiB, is above the limit.
     Argon2MemoryLimit(u64),
-    /// The same: the memory, filled as often as the time says, is above the limit. That is so much
-    /// in KiB.
+    /// The same: the memory that all passes fill, here in KiB, is above the limit.
     Argon2FillLimit(u64),
     /// The key material starts inside the header, or it ends past byte 33,554,432 or past the
     /// payload's start. LUKS2: or the area's size is below what the key material needs. The

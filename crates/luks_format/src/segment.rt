@@ -74,7 +74,11 @@ impl Segment {
         })
     }
 
-    /// The segment with these parts, unless it has a fault.
+    /// The segment with these parts, or this fault.
+    ///
+    /// # Errors
+    ///
+    /// The fault; without one, `Member` if a part is missing or out of range.
     pub fn unless_refused(
         fault: Option<SegmentFault>,
         parts: SegmentParts,
