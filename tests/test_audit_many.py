@@ -137,4 +137,4 @@ def test_many_headers(audit, luksrd, bases, tmp_path, part):
             compared += is_volume and check_reported(line, file)
         except AssertionError as error:
             raise AssertionError(f"SEED={SEED}, header {file.name}: {json.dumps(line)}") from error
-    assert compared > len(made) // 5 and sum("error" not in line for line in found) > len(made) // 2
+    assert compared > len(made) // 4 and sum("error" not in line for line in found) > len(made) // 2
