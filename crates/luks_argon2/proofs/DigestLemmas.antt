@@ -1,8 +1,8 @@
 -- A hasher that absorbs the fields of H_0.
 use Rattle.std.proofs.Common.{◌≡◌, ℕ, ◌+◌, ◌^◌, ◌<◌, ◌≤◌, List, ◌++◌, length, length-append, arith}
-use Rattle.luks_blake2b.specs.Blake2b.{blake2b}
-use Rattle.luks_blake2b.specs.Hashing.{HasherModel, hasher_after}
-use Rattle.luks_blake2b.specs.Words.{le32}
+use Rattle.luks_argon2.specs.Blake2b.{blake2b}
+use Rattle.luks_argon2.specs.Hashing.{HasherModel, hasher_after}
+use Rattle.luks_argon2.specs.Words.{le32}
 
 -- the hasher has absorbed this message, which has no more than k bytes
 pub record HasAbsorbed (h : HasherModel) (m : List ℕ) (k : ℕ) : Type 0 where

@@ -1,5 +1,9 @@
+pub mod BlakeLemmas
 pub mod BlockLemmas
 pub mod DigestLemmas
 pub mod FillLemmas
+pub mod HashingLemmas
 pub mod TagLemmas
+pub mod VariableLengthLemmas
 pub mod VectorLemmas
+pub mod WordLemmas

@@ -4,7 +4,7 @@ use Rattle.std.proofs.lemmas.Slice.{take-put_mid}
 use Rattle.std.specs.Prelude.{slice_index_or, ◌≤◌}
 use Rattle.luks_argon2.specs.Argon2.{last_column_xor, rows_bytes}
 use Rattle.luks_argon2.specs.Block.{block_row, xor_blocks}
-use Rattle.luks_blake2b.specs.Words.{le64_bytes}
+use Rattle.luks_argon2.specs.Words.{le64_bytes}
 use borrow.Rule.Slice.PartMut.{put_mid}
 
 pub last_next : (q : ℕ) (memory : List (List (List ℕ))) (n : ℕ)

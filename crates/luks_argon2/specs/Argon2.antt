@@ -2,13 +2,13 @@
 use Rattle.std.specs.Prelude.{ℕ, zero, suc, ◌+◌, ◌-◌, ◌*◌, List, [], ◌++◌, length, replicate, slice_index_or, slice_set}
 use Rattle.luks_argon2.specs.declared.layout.Layout.{Layout}
 use Rattle.luks_argon2.specs.declared.variant.Variant.{Variant}
-use Rattle.luks_blake2b.specs.Blake2b.{blake2b}
-use Rattle.luks_blake2b.specs.VariableLength.{variable_length_hash}
-use Rattle.luks_blake2b.specs.Words.{le32, le64_bytes, le64_words_at}
 use Rattle.luks_argon2.specs.Addressing.{variant_number}
+use Rattle.luks_argon2.specs.Blake2b.{blake2b}
 use Rattle.luks_argon2.specs.Block.{block_of, block_row, xor_blocks, zero_block}
 use Rattle.luks_argon2.specs.Fill.{passes_filled}
 use Rattle.luks_argon2.specs.Layout.{block_count, lane_len, layout_of}
+use Rattle.luks_argon2.specs.VariableLength.{variable_length_hash}
+use Rattle.luks_argon2.specs.Words.{le32, le64_bytes, le64_words_at}
 
 -- H_0 (step 1), for a tag of n bytes. The last two lengths are those of the secret value and the associated data.
 unfoldable pub first_digest : Variant → List ℕ → List ℕ → ℕ → ℕ → ℕ → ℕ → List ℕ

@@ -1,10 +1,14 @@
 pub mod Addressing
 pub mod Argon2
+pub mod Blake2b
 pub mod Block
 pub mod Compression
 pub mod Fill
+pub mod Hashing
 pub mod Layout
 pub mod Parameters
 pub mod Permutation
 pub mod Reference
+pub mod VariableLength
 pub mod Vectors
+pub mod Words

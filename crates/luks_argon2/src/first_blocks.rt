@@ -4,13 +4,15 @@
 ghost use Rattle.std.specs.Prelude.{◌≡◌, ℕ, ◌+◌, ◌*◌, ◌++◌, ◌^◌, ◌≤◌, ◌<◌, List, length};
 ghost use Rattle.luks_argon2.specs.Argon2.{block_of_bytes, first_block, first_digest};
 ghost use Rattle.luks_argon2.specs.Argon2.{with_first_blocks};
-ghost use Rattle.luks_blake2b.specs.Hashing.{hasher_after};
-ghost use Rattle.luks_blake2b.specs.Words.{le32};
+ghost use Rattle.luks_argon2.specs.Hashing.{hasher_after};
+ghost use Rattle.luks_argon2.specs.Words.{le32};
 
 use crate::block::Block;
+use crate::hashing::Hasher;
 use crate::parameters::Parameters;
+use crate::variable_length::variable_length_hash;
 use crate::variant::{Variant, variant_number};
-use luks_blake2b::{Hasher, load_words, variable_length_hash};
+use crate::words::load_words;
 
 const VERSION: u32 = 0x13;
 
@@ -83,7 +85,7 @@ fn le32_pair(x: u32, y: u32) -> [u8; 8]
 }
 
 // What the block at column `column`, 0 or 1, of a lane is made of.
-#[tactic(auto, using(luks_blake2b::proofs::WordLemmas::joined_after, std::proofs::Common::append_assoc))]
+#[tactic(auto, using(crate::proofs::WordLemmas::joined_after, std::proofs::Common::append_assoc))]
 fn block_input(h0: &[u8; 64], column: u32, lane: u32) -> [u8; 72]
     ensures { result ≡ h0.now ++ le32 column ++ le32 lane }
 {

@@ -5,7 +5,7 @@ ghost use Rattle.luks_argon2.specs.Argon2.{argon2, last_column_xor, rows_bytes, 
 ghost use Rattle.luks_argon2.specs.Block.{zero_block};
 ghost use Rattle.luks_argon2.specs.Layout.{IsLayout, block_count};
 ghost use Rattle.luks_argon2.specs.Parameters.{memory_blocks};
-ghost use Rattle.luks_blake2b.specs.VariableLength.{variable_length_hash};
+ghost use Rattle.luks_argon2.specs.VariableLength.{variable_length_hash};
 
 use crate::block::{Block, xor_into};
 use crate::filling::fill;
@@ -13,9 +13,10 @@ use crate::first_blocks::{first_digest, write_first_blocks};
 use crate::layout::{Layout, layout_of};
 use crate::memory::{Memory, clear};
 use crate::parameters::Parameters;
+use crate::variable_length::variable_length_hash;
 use crate::variant::Variant;
 use crate::wiping::wiped_after_tag;
-use luks_blake2b::{store_words, variable_length_hash};
+use crate::words::store_words;
 
 // C, the XOR of the last column (step 7).
 #[tactic(auto, unfolding(crate::specs::Argon2::last_column_xor))]

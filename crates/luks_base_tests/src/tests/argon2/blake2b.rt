@@ -1,5 +1,5 @@
 use super::{assert_bytes, numbered};
-use luks_blake2b::{Hasher, blake2b, blake2b_512, variable_length_hash};
+use luks_argon2::{Hasher, blake2b, blake2b_512, variable_length_hash};
 use std::process::Abort;
 
 // RFC 7693, appendix A.

@@ -1,4 +1,0 @@
-pub mod BlakeLemmas
-pub mod HashingLemmas
-pub mod VariableLengthLemmas
-pub mod WordLemmas

@@ -1,6 +1,0 @@
-use Rattle.std.proofs.Common.{◌≡◌}
-use Rattle.luks_blake2b.specs.Blake2b.{rounds, working_vector}
-use Rattle.luks_blake2b.proofs.compression.compress.Given as goal
-
-abbrev pub invariant-rounds : goal.invariant-rounds
-invariant-rounds l = l.v ≡ rounds l.m (working_vector l.h l.count l.last) l.r
