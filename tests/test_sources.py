@@ -44,7 +44,7 @@ def test_counts_of_work():
         "luks_commands/src/execute.rt": 1,  # a run
         "luks_access/src/volume.rt": 1,  # the opening of a volume by the library
         "luks_access/src/key.rt": 1,  # the comparison of a known key by the library
-        "luks_seal/src/pieces.rt": 1,  # a volume that is sealed
+        "luks_volume/src/pieces.rt": 1,  # a volume that is sealed
     }
     # a parameter, and an import under its own name
     other = re.compile(r"&(mut )?Work\b(?!::)|^(?:pub )?use luks_kdf::(Work;|\{(.*, )?Work(, .*)?\};)", re.MULTILINE)

@@ -47,8 +47,8 @@ use Rattle.luks_payload.proofs.SectorLemmas.{one_more_fits}
 use Rattle.luks_payload.specs.Plain.{ending_of, ending_of_len, plain_of, sector_len, sector_plaintext, unit_number}
 use Rattle.luks_payload.specs.Plain.{unit_plain, payload_bytes}
 use Rattle.luks_payload.specs.declared.state.Step.TheVariants.{End}
-use Rattle.luks_seal.proofs.MaterialLemmas.{derived_bytes, hash_bytes}
-use Rattle.luks_seal.specs.Sealed.{EndsWith, GivesKey, IsDigestOf, IsStoredEncrypted, Sealed, SealsKey, SealsPlain}
+use Rattle.luks_volume.proofs.MaterialLemmas.{derived_bytes, hash_bytes}
+use Rattle.luks_volume.specs.Sealed.{EndsWith, GivesKey, IsDigestOf, IsStoredEncrypted, Sealed, SealsKey, SealsPlain}
 use Rattle.luks_report.specs.Faults.{message_at_end}
 use Rattle.luks_report.specs.declared.message.Message.TheVariants.{Done}
 use Rattle.luks_open.specs.declared.allowed.AllowedSlots.{AllowedSlots}

@@ -2,7 +2,7 @@
 use Rattle.std.specs.Prelude.{◌≡◌, ℕ, ◌≤◌, All, Contains, List, ◌∷◌, ◌++◌, length, Some, Ok}
 use Rattle.luks_open.specs.Opening.{slot_key, OrderModel, order_within}
 use Rattle.luks_open.specs.declared.entry.Entry.{Entry}
-use Rattle.luks_seal.specs.Sealed.{Sealed}
+use Rattle.luks_volume.specs.Sealed.{Sealed}
 use Rattle.luks_open.specs.declared.allowed.AllowedSlots.{AllowedSlots}
 use Rattle.luks_open.specs.KeyFile.{max_key_file_len}
 

@@ -5,7 +5,7 @@ ghost use Rattle.std.specs.Prelude.{◌≡◌};
 use luks_cipher::Mode;
 use luks_format::sector_size::SectorSize;
 use luks_kdf::Hash;
-use luks_seal::parameters::{Seal1, Seal2, Slot1, Slot2};
+use luks_volume::parameters::{Seal1, Seal2, Slot1, Slot2};
 
 /// The key of the volumes.
 pub const KEY: &[u8] = b"a volume key has thirty-two byte";

@@ -8,7 +8,7 @@ mod ranges1;
 mod ranges2;
 
 use luks_cipher::Mode;
-use luks_seal::parameters::SealFault;
+use luks_volume::parameters::SealFault;
 use std::process::Abort;
 
 /// Lengths of keys in bytes, and whether the mode has such keys.

@@ -7,11 +7,11 @@ use super::volumes2::slot;
 use luks_cipher::Mode;
 use luks_format::sector_size::SectorSize;
 use luks_kdf::Hash;
-use luks_seal::luks1::seal1;
-use luks_seal::luks2::seal2;
-use luks_seal::parameters::{Seal1, Seal2, Slot1, Slot2};
 use luks_seal_fixtures::bytes::at;
 use luks_seal_fixtures::parameters::{parameters1, parameters2};
+use luks_volume::luks1::seal1;
+use luks_volume::luks2::seal2;
+use luks_volume::parameters::{Seal1, Seal2, Slot1, Slot2};
 use std::process::Abort;
 
 const ONE: &[u8] = b"one";

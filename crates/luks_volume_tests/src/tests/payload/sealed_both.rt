@@ -16,13 +16,13 @@ use luks_open::order::key_material_end;
 use luks_open::ordering::order;
 use luks_payload::pump::Pump;
 use luks_payload::state::Step;
-use luks_seal::luks1::seal1;
-use luks_seal::luks2::seal2;
-use luks_seal::parameters::{Seal1, Seal2, Slot1, Slot2};
 use luks_seal_fixtures::bytes::at;
 use luks_seal_fixtures::parameters::{self, parameters1, parameters2};
 use luks_test_support::bytes::put;
 use luks_test_support::devices::FlakySource;
+use luks_volume::luks1::seal1;
+use luks_volume::luks2::seal2;
+use luks_volume::parameters::{Seal1, Seal2, Slot1, Slot2};
 use std::process::Abort;
 
 const MODES: [(Mode, usize); 8] = [

@@ -7,11 +7,11 @@ use crate::tests::shared::counted;
 use luks_cipher::Mode;
 use luks_format::sector_size::SectorSize;
 use luks_kdf::{Hash, digest};
-use luks_seal::luks1::seal1;
-use luks_seal::luks2::seal2;
-use luks_seal::parameters::{Seal1, Seal2, SealFault, Slot1, Slot2};
 use luks_seal_fixtures::bytes::at;
 use luks_seal_fixtures::parameters::{parameters1, parameters2, slot1, slot2};
+use luks_volume::luks1::seal1;
+use luks_volume::luks2::seal2;
+use luks_volume::parameters::{Seal1, Seal2, SealFault, Slot1, Slot2};
 use std::process::Abort;
 
 /// The SHA-256 of an image of LUKS1 with a key of 32 bytes and areas of one sector.

@@ -2,11 +2,11 @@
 //! reports that, and never anything else.
 
 use crate::tests::shared::counted;
-use luks_seal::luks1::seal1;
-use luks_seal::luks2::seal2;
-use luks_seal::parameters::{Seal1, Seal2, SealFault};
 use luks_seal_fixtures::parameters::{parameters1, parameters2, slot1, slot2};
 use luks_test_support::scarce::Scarcity;
+use luks_volume::luks1::seal1;
+use luks_volume::luks2::seal2;
+use luks_volume::parameters::{Seal1, Seal2, SealFault};
 use std::alloc::Global;
 use std::process::Abort;
 

@@ -4,10 +4,10 @@ use super::{KEY_LENGTHS, check_fits};
 use crate::tests::shared::counted;
 use luks_cipher::Mode;
 use luks_format::sector_size::SectorSize;
-use luks_seal::luks2::seal2;
-use luks_seal::parameters::{Seal2, Slot2};
 use luks_seal_fixtures::bytes::at;
 use luks_seal_fixtures::parameters::{SALT, parameters2, slot2};
+use luks_volume::luks2::seal2;
+use luks_volume::parameters::{Seal2, Slot2};
 use std::process::Abort;
 
 /// What is changed in parameters that are in range. A text begins at an index of bytes that count

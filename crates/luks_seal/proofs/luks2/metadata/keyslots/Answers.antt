@@ -1,6 +1,0 @@
-use Rattle.std.proofs.Common.{◌∙◌, ap, arith}
-use Rattle.luks_seal.specs.Layout2.{keyslots_below}
-use Rattle.luks_seal.proofs.luks2.metadata.keyslots.Goals as goal
-
-pub returns : goal.returns
-returns c = c.slots.invariant ∙ ap (keyslots_below c.args.seal.now) (omega arith)
