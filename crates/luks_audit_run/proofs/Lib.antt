@@ -1,4 +1,6 @@
 pub mod FileLemmas
+pub mod MagicLemmas
+pub mod PlaceLemmas
 pub mod PutLemmas
 pub mod RunLemmas
 pub mod SearchLemmas

@@ -7,24 +7,24 @@ use Rattle.std.proofs.lemmas.Result.{IfOk-from_err}
 use Rattle.luks_io.specs.Devices.{Appended, IfKnown, counted}
 use Rattle.luks_io.proofs.EffectLemmas.{appended-more, appended-none}
 use Rattle.luks_format.specs.declared.fault.HeaderFault.TheVariants.{Memory, Read}
-use Rattle.luks_search.proofs.PlaceLemmas.{in_near}
-use Rattle.luks_search.specs.Places.{places_below}
-use Rattle.luks_search.specs.Search.{FindsNext, IsIn, IsNear, SearchModel, reports_failed_read}
-use Rattle.luks_search.specs.declared.place.Place.{Place}
-use Rattle.luks_search.specs.declared.place.SearchFault.{SearchFault}
-use Rattle.luks_search.specs.declared.place.SearchFault.TheVariants.{Memory as SearchMemory, Read as SearchRead}
 use Rattle.luks_audit.specs.Image.{fault_line, header_line, header_state}
 use Rattle.luks_audit.specs.declared.image.Policy.{Policy}
 use Rattle.luks_audit.specs.declared.image.State.{State}
 use Rattle.luks_audit.specs.declared.image.State.TheVariants.{Unread}
+use Rattle.luks_audit_run.proofs.PlaceLemmas.{in_near}
+use Rattle.luks_audit_run.proofs.PutLemmas.{puts_before, puts_behind, puts_none}
+use Rattle.luks_audit_run.proofs.SearchedLemmas.{Told, told_all, told_more, told_none}
 use Rattle.luks_audit_run.specs.Host.Stored.{unknown}
+use Rattle.luks_audit_run.specs.Places.{places_below}
 use Rattle.luks_audit_run.specs.Run.{Audits, Puts, Tells, TellsOpen, image_state, image_text}
 use Rattle.luks_audit_run.specs.Run.Course.{whole, not_read, no_memory, untold}
+use Rattle.luks_audit_run.specs.Search.{FindsNext, IsIn, IsNear, SearchModel, reports_failed_read}
 use Rattle.luks_audit_run.specs.Searched.{end_line, end_state, graver_of, place_lines, search_fault}
 use Rattle.luks_audit_run.specs.declared.image.RunFault.{RunFault}
 use Rattle.luks_audit_run.specs.declared.image.Scope.TheVariants.{Everywhere}
-use Rattle.luks_audit_run.proofs.PutLemmas.{puts_before, puts_behind, puts_none}
-use Rattle.luks_audit_run.proofs.SearchedLemmas.{Told, told_all, told_more, told_none}
+use Rattle.luks_audit_run.specs.declared.place.Place.{Place}
+use Rattle.luks_audit_run.specs.declared.place.SearchFault.{SearchFault}
+use Rattle.luks_audit_run.specs.declared.place.SearchFault.TheVariants.{Memory as SearchMemory, Read as SearchRead}
 
 -- what a search wrote of an image whose bytes nobody knows
 search_anyway : (policy : Policy) (file text : List ℕ) (failed : Bool) (state : State)

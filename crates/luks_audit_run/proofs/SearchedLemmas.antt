@@ -6,16 +6,16 @@ use Rattle.std.proofs.Common.{false}
 use Rattle.std.proofs.lemmas.List.{append-nil}
 use Rattle.std.proofs.lemmas.Grind.{flat_map-append}
 use Rattle.luks_format.specs.declared.fault.HeaderFault.TheVariants.{NotLuks}
-use Rattle.luks_search.specs.Places.{header_at, places_below, places_of}
-use Rattle.luks_search.specs.Search.{IsIn, SearchModel}
-use Rattle.luks_search.specs.declared.place.Place.{Place}
 use Rattle.luks_audit.specs.Image.{fault_line, header_line, header_state}
 use Rattle.luks_audit.specs.declared.image.Policy.{Policy}
 use Rattle.luks_audit.specs.declared.image.State.{State}
 use Rattle.luks_audit.specs.declared.image.State.TheVariants.{Clean}
+use Rattle.luks_audit_run.specs.Places.{header_at, places_below, places_of}
+use Rattle.luks_audit_run.specs.Search.{IsIn, SearchModel}
 use Rattle.luks_audit_run.specs.Searched.{end_line, end_state, graver, graver_of, gravest_place}
 use Rattle.luks_audit_run.specs.Searched.{place_line, lines_or_none, place_lines}
 use Rattle.luks_audit_run.specs.Searched.{searched_lines, searched_state, shown_of, place_state, state_or_none}
+use Rattle.luks_audit_run.specs.declared.place.Place.{Place}
 
 pub graver_clean : (state : State) → graver state Clean ≡ state
 graver_clean x0 = grind (arith, common_steps)

@@ -2,11 +2,11 @@
 use Rattle.std.proofs.Common.{◌≡◌, ◌⊎◌, ℕ, ◌++◌, Bool, List, inl, inr}
 use Rattle.luks_format.specs.declared.fault.HeaderFault.TheVariants.{Memory, Read}
 use Rattle.luks_header.specs.Header.{header_of}
-use Rattle.luks_search.specs.Places.{places_below}
 use Rattle.luks_audit.specs.Image.{fault_line, line_by}
 use Rattle.luks_audit.specs.declared.image.Policy.{Policy}
 use Rattle.luks_audit.specs.declared.image.State.{State}
 use Rattle.luks_audit_run.specs.Host.Stored.{image}
+use Rattle.luks_audit_run.specs.Places.{places_below}
 use Rattle.luks_audit_run.specs.Run.{Course, IsPossible, Tells, image_text}
 use Rattle.luks_audit_run.specs.Run.Course.{whole, not_opened, not_read, no_memory, found, untold}
 use Rattle.luks_audit_run.specs.Searched.{place_lines, searched_lines}

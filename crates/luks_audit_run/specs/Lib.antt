@@ -1,3 +1,6 @@
 pub mod Host
+pub mod Magic
+pub mod Places
 pub mod Run
+pub mod Search
 pub mod Searched

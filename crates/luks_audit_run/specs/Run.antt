@@ -6,8 +6,6 @@ use Rattle.luks_format.specs.declared.fault.HeaderFault.TheVariants.{Read, Memor
 use Rattle.luks_header.specs.Header.{header_of}
 use Rattle.luks_header.specs.declared.header.Header.{Header}
 use Rattle.luks_io.specs.Devices.{Appended, IfKnown, counted}
-use Rattle.luks_search.specs.Places.{places_below}
-use Rattle.luks_search.specs.Search.{IsNear}
 use Rattle.luks_audit.specs.Image.{IsSomeHeader, fault_line, line_by, state_by}
 use Rattle.luks_audit.specs.Line.{error_value, head_of, line_text}
 use Rattle.luks_audit.specs.declared.image.Policy.{Policy}
@@ -16,13 +14,15 @@ use Rattle.luks_audit.specs.declared.image.State.TheVariants.{Clean, Flawed, Unr
 use Rattle.luks_audit.specs.declared.line.Format.{Format}
 use Rattle.luks_audit_run.specs.Host.{Stored}
 use Rattle.luks_audit_run.specs.Host.Stored.{image, absent, unknown}
+use Rattle.luks_audit_run.specs.Places.{places_below}
+use Rattle.luks_audit_run.specs.Search.{IsNear}
 use Rattle.luks_audit_run.specs.Searched.{graver, place_lines, searched_lines, searched_state}
 use Rattle.luks_audit_run.specs.declared.host.ImageFault.{ImageFault}
 use Rattle.luks_audit_run.specs.declared.host.ImageFault.TheVariants.{NotOpened, Memory as MemoryToOpen}
-use Rattle.luks_audit_run.specs.declared.image.Scope.{Scope}
-use Rattle.luks_audit_run.specs.declared.image.Scope.TheVariants.{Start, Everywhere}
 use Rattle.luks_audit_run.specs.declared.image.RunFault.{RunFault}
 use Rattle.luks_audit_run.specs.declared.image.RunFault.TheVariants.{WriteFailed as Unwritten}
+use Rattle.luks_audit_run.specs.declared.image.Scope.{Scope}
+use Rattle.luks_audit_run.specs.declared.image.Scope.TheVariants.{Start, Everywhere}
 use Rattle.luks_audit_run.specs.declared.run.Ending.{Ending}
 use Rattle.luks_audit_run.specs.declared.run.Ending.TheVariants.{Done, OutOfMemory, WriteFailed}
 

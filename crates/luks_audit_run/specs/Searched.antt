@@ -3,13 +3,13 @@ use Rattle.std.specs.Prelude.{ℕ, List, [], ◌∷◌, Option, Some, None, Resu
 use Rattle.luks_format.specs.declared.fault.HeaderFault.{HeaderFault}
 use Rattle.luks_format.specs.declared.fault.HeaderFault.TheVariants.{NotLuks, Read, Memory}
 use Rattle.luks_header.specs.declared.header.Header.{Header}
-use Rattle.luks_search.specs.Places.{header_at, places_of}
-use Rattle.luks_search.specs.declared.place.SearchFault.{SearchFault}
-use Rattle.luks_search.specs.declared.place.SearchFault.TheVariants.{Read as SearchRead, Memory as SearchMemory}
 use Rattle.luks_audit.specs.Image.{fault_line, header_line, header_state}
 use Rattle.luks_audit.specs.declared.image.Policy.{Policy}
 use Rattle.luks_audit.specs.declared.image.State.{State}
 use Rattle.luks_audit.specs.declared.image.State.TheVariants.{Clean, Flawed, Unread}
+use Rattle.luks_audit_run.specs.Places.{header_at, places_of}
+use Rattle.luks_audit_run.specs.declared.place.SearchFault.{SearchFault}
+use Rattle.luks_audit_run.specs.declared.place.SearchFault.TheVariants.{Read as SearchRead, Memory as SearchMemory}
 
 -- the graver of two states
 abbrev pub graver : State → State → State

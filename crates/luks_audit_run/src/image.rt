@@ -7,12 +7,12 @@ ghost use Rattle.luks_audit_run.specs.Run.{Audits, Puts, is_unwritten};
 ghost use Rattle.luks_audit_run.specs.Searched.{end_line, end_state, graver, graver_of};
 ghost use Rattle.luks_audit_run.specs.Searched.{search_fault};
 
+use crate::place::{Place, SearchFault};
+use crate::search::Search;
 use luks_audit::image::{ImageLine, Policy, State, audit_image, fault_line, header_line};
 use luks_header::fault::HeaderFault;
 use luks_io::sink::{Sink, put_all};
 use luks_io::source::Source;
-use luks_search::place::{Place, SearchFault};
-use luks_search::search::Search;
 use std::alloc::{AllocError, Global};
 
 /// Where headers are sought in an image.

@@ -2,7 +2,7 @@ use Rattle.std.proofs.Common.{◌∙◌, None, Some, ap, refl, subst, sym}
 use Rattle.std.specs.Prelude.{Err, is_err}
 use Rattle.luks_io.specs.Devices.{counted}
 use Rattle.luks_format.specs.declared.fault.HeaderFault.{HeaderFault}
-use Rattle.luks_search.specs.Search.{SearchModel, reports_failed_read}
+use Rattle.luks_audit_run.specs.Search.{SearchModel, reports_failed_read}
 use Rattle.luks_audit.specs.Image.{fault_line}
 use Rattle.luks_audit.specs.declared.image.State.{State}
 use Rattle.luks_audit_run.specs.Run.{Puts}

@@ -3,7 +3,7 @@ use Rattle.std.proofs.Common.{take}
 use Rattle.std.proofs.lemmas.List.{map_more, take-map}
 use Rattle.std.proofs.Math.Seq.{take-length}
 use Rattle.luks_audit_run.proofs.RunLemmas.{moved_file, runs_more, runs_none}
-use Rattle.luks_search.proofs.PlaceLemmas.{on_fault}
+use Rattle.luks_audit_run.proofs.PlaceLemmas.{on_fault}
 use Rattle.luks_audit.specs.declared.image.State.TheVariants.{Clean}
 use Rattle.luks_audit_run.specs.Run.{Runs, RunsPartly}
 use Rattle.luks_audit_run.specs.Searched.{graver}

@@ -1,10 +1,10 @@
 use Rattle.std.proofs.Common.{◌∙◌, ◌*◌, ◌++◌, ◌∷◌, [], ap, arith, length, subst, sym}
 use Rattle.std.proofs.lemmas.Bool.{eqb-true}
 use Rattle.luks_header.specs.Header.{header_of}
-use Rattle.luks_search.proofs.PlaceLemmas.{in_near, none_left, on_fault, tried_in, tried_none, tried_some}
-use Rattle.luks_search.specs.Places.{found_in, header_at, places_below}
-use Rattle.luks_search.specs.Search.{IsIn, SearchModel}
-use Rattle.luks_search.proofs.search.Search.try_sector.Goals as goal
+use Rattle.luks_audit_run.proofs.PlaceLemmas.{in_near, none_left, on_fault, tried_in, tried_none, tried_some}
+use Rattle.luks_audit_run.specs.Places.{found_in, header_at, places_below}
+use Rattle.luks_audit_run.specs.Search.{IsIn, SearchModel}
+use Rattle.luks_audit_run.proofs.search.Search.try_sector.Goals as goal
 
 pub returns-then-is_empty-clause-found : goal.returns-then-is_empty-clause-found
 returns-then-is_empty-clause-found c image left is =

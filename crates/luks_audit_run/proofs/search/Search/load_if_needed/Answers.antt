@@ -1,11 +1,11 @@
 use Rattle.std.proofs.Common.{◌∙◌, ◌+◌, ◌*◌, ◌≤◌, ap, arith, drop, inr, length, subst, sym}
-use Rattle.luks_search.proofs.PlaceLemmas.{advanced_in, skipped_none}
-use Rattle.luks_search.proofs.search.Search.load_if_needed.Given.{Over}
-use Rattle.luks_search.proofs.search.Search.load_if_needed.Goals.{After-advance}
-use Rattle.luks_search.specs.Magic.{begins_magic}
-use Rattle.luks_search.specs.Places.{places_below}
-use Rattle.luks_search.specs.Search.{IsIn, SearchModel}
-use Rattle.luks_search.proofs.search.Search.load_if_needed.Goals as goal
+use Rattle.luks_audit_run.proofs.PlaceLemmas.{advanced_in, skipped_none}
+use Rattle.luks_audit_run.proofs.search.Search.load_if_needed.Given.{Over}
+use Rattle.luks_audit_run.proofs.search.Search.load_if_needed.Goals.{After-advance}
+use Rattle.luks_audit_run.specs.Magic.{begins_magic}
+use Rattle.luks_audit_run.specs.Places.{places_below}
+use Rattle.luks_audit_run.specs.Search.{IsIn, SearchModel}
+use Rattle.luks_audit_run.proofs.search.Search.load_if_needed.Goals as goal
 
 -- the last secondary header that a sector may have begins among the loaded bytes
 reach : (g : Over) (c : After-advance g) → 512 * c.min-count.result + 4194304 ≤ length c.load.new.self.bytes

@@ -2,7 +2,7 @@
 
 ghost use Rattle.std.specs.Prelude.{◌≡◌, IfOk, Err};
 ghost use Rattle.luks_header.specs.Header.{header_of};
-ghost use Rattle.luks_search.specs.Places.{found_in};
+ghost use Rattle.luks_audit_run.specs.Places.{found_in};
 
 use crate::magic::may_have_header;
 use luks_header::fault::HeaderFault;
@@ -32,7 +32,7 @@ pub enum SearchFault {
 }
 
 impl From<AllocError> for SearchFault {
-    ghost use Rattle.luks_search.specs.declared.place.SearchFault.{SearchFault};
+    ghost use Rattle.luks_audit_run.specs.declared.place.SearchFault.{SearchFault};
 
     ghost from_gives = { λ _ fault. fault ≡ SearchFault.Memory };
 
@@ -42,7 +42,7 @@ impl From<AllocError> for SearchFault {
 }
 
 impl From<ReadFault> for SearchFault {
-    ghost use Rattle.luks_search.specs.declared.place.SearchFault.{SearchFault};
+    ghost use Rattle.luks_audit_run.specs.declared.place.SearchFault.{SearchFault};
 
     ghost from_gives = { λ _ fault. fault ≡ SearchFault.Read };
 

@@ -4,8 +4,8 @@ ghost use Rattle.std.specs.Prelude.{◌≡◌, ◌⊎◌, ◌+◌, ◌*◌, ◌<
 ghost use Rattle.std.specs.Prelude.{IfOk, IfSome, OnErr, OnOk, drop, false, is_err, length, take};
 ghost use Rattle.std.specs.Prelude.{true};
 ghost use Rattle.luks_io.specs.Devices.{counted};
-ghost use Rattle.luks_search.specs.Search.{FindsNext, FindsNone, IsEnd, IsIn, IsNear, StepsOn};
-ghost use Rattle.luks_search.specs.Search.{reports_failed_read};
+ghost use Rattle.luks_audit_run.specs.Search.{FindsNext, FindsNone, IsEnd, IsIn, IsNear, StepsOn};
+ghost use Rattle.luks_audit_run.specs.Search.{reports_failed_read};
 
 use crate::buffer::refill;
 use crate::magic::{MAX_SECONDARY_OFFSET, SECTOR_LEN, is_quiet};
@@ -38,7 +38,7 @@ pub struct Search {
 
 impl Model for Search {
     ghost use Rattle.std.specs.Prelude.{◌≡◌, ◌≤◌, drop, take, vec_len};
-    ghost use Rattle.luks_search.specs.Search.{SearchModel};
+    ghost use Rattle.luks_audit_run.specs.Search.{SearchModel};
 
     ghost Value = { SearchModel };
 

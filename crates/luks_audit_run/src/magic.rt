@@ -3,7 +3,7 @@
 ghost use Rattle.std.specs.Prelude.{◌≡◌, drop, true};
 ghost use Rattle.std.specs.List.{list_any};
 ghost use Rattle.luks2_binary.specs.Header2.{sizes};
-ghost use Rattle.luks_search.specs.Magic.{IsQuiet, begins_magic, may_have_header};
+ghost use Rattle.luks_audit_run.specs.Magic.{IsQuiet, begins_magic, may_have_header};
 
 /// The length of a sector in bytes.
 pub(crate) const SECTOR_LEN: usize = 512;

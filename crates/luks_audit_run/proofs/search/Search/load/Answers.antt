@@ -1,9 +1,9 @@
 use Rattle.std.proofs.Common.{rules}
 use Rattle.std.proofs.Common.{ap, arith, length, length-drop, subst, sym, take}
 use Rattle.std.proofs.lemmas.List.{length-take, with_items_is}
-use Rattle.luks_search.proofs.PlaceLemmas.{failed_near, loaded_in, on_fault}
-use Rattle.luks_search.specs.Search.{IsIn, SearchModel}
-use Rattle.luks_search.proofs.search.Search.load.Goals as goal
+use Rattle.luks_audit_run.proofs.PlaceLemmas.{failed_near, loaded_in, on_fault}
+use Rattle.luks_audit_run.specs.Search.{IsIn, SearchModel}
+use Rattle.luks_audit_run.proofs.search.Search.load.Goals as goal
 
 pub returns-clause-held : goal.returns-clause-held
 returns-clause-held g c image is = search (rules, with_items_is, loaded_in)

@@ -1,6 +1,6 @@
 use Rattle.std.proofs.Common.{arith}
-use Rattle.luks_search.proofs.MagicLemmas.{quiet_all}
-use Rattle.luks_search.proofs.magic.is_quiet.Goals as goal
+use Rattle.luks_audit_run.proofs.MagicLemmas.{quiet_all}
+use Rattle.luks_audit_run.proofs.magic.is_quiet.Goals as goal
 
 pub returns : goal.returns
 returns c = λ _.

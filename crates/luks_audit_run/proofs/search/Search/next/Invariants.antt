@@ -1,6 +1,6 @@
 use Rattle.std.proofs.Common.{◌≡◌, ◌-◌, ◌≤◌, ℕ, List}
-use Rattle.luks_search.specs.Search.{FindsNone, IsIn}
-use Rattle.luks_search.proofs.search.Search.next.Given as goal
+use Rattle.luks_audit_run.specs.Search.{FindsNone, IsIn}
+use Rattle.luks_audit_run.proofs.search.Search.next.Given as goal
 
 -- so far there is no place, and no read has failed
 abbrev pub invariant-loop-self : goal.invariant-loop-self

@@ -14,12 +14,12 @@ use Rattle.luks_io.specs.Devices.{ConsumedInto}
 use Rattle.luks_format.specs.declared.fault.HeaderFault.{HeaderFault}
 use Rattle.luks_header.specs.Header.{header_of}
 use Rattle.luks_header.specs.declared.header.Header.{Header}
-use Rattle.luks_search.specs.Magic.{IsQuiet, begins_magic}
+use Rattle.luks_audit_run.specs.Magic.{IsQuiet, begins_magic}
 use Rattle.luks_header.proofs.HorizonLemmas.{header_of_start}
-use Rattle.luks_search.specs.Places.{found_in, header_at, max_searched_sectors}
-use Rattle.luks_search.specs.Places.{place_if, places_below, places_of, sectors_in}
-use Rattle.luks_search.specs.Search.{IsIn, IsNear, SearchModel}
-use Rattle.luks_search.proofs.MagicLemmas.{nothing_none, quiet_at, quiet_none, six_decide}
+use Rattle.luks_audit_run.specs.Places.{found_in, header_at, max_searched_sectors}
+use Rattle.luks_audit_run.specs.Places.{place_if, places_below, places_of, sectors_in}
+use Rattle.luks_audit_run.specs.Search.{IsIn, IsNear, SearchModel}
+use Rattle.luks_audit_run.proofs.MagicLemmas.{nothing_none, quiet_at, quiet_none, six_decide}
 
 -- the header of an image is that of its first bytes, if there are 8 MiB of them or more
 header_by_start : (bytes rest : List ℕ) → 8388608 ≤ length bytes → header_of (bytes ++ rest) ≡ header_of bytes

@@ -18,8 +18,8 @@ use Rattle.luks2_binary.proofs.ChoiceLemmas.{chosen_other}
 use Rattle.luks2_binary.proofs.ValidLemmas.{fits_parts, unfit-is_valid}
 use Rattle.luks_header.specs.Header.{header_of}
 use Rattle.luks_header.proofs.LoadingLemmas.{header_other}
-use Rattle.luks_search.specs.Magic.{IsQuiet, begins_magic, may_have_header}
-use Rattle.luks_search.specs.Places.{found_in}
+use Rattle.luks_audit_run.specs.Magic.{IsQuiet, begins_magic, may_have_header}
+use Rattle.luks_audit_run.specs.Places.{found_in}
 
 -- the first eight bytes begin with the magic bytes
 begins_by : (bytes : List ℕ) (p q : ℕ)

@@ -1,8 +1,8 @@
 use Rattle.std.proofs.Common.{◌≡◌, ◌∙◌, ◌++◌, ◌∷◌, [], List, ℕ, ap, arith, inl, inr}
-use Rattle.luks_search.proofs.PlaceLemmas.{behind_all, on_fault}
-use Rattle.luks_search.specs.Places.{places_below}
-use Rattle.luks_search.specs.Search.{SearchModel}
-use Rattle.luks_search.proofs.search.Search.next.Goals as goal
+use Rattle.luks_audit_run.proofs.PlaceLemmas.{behind_all, on_fault}
+use Rattle.luks_audit_run.specs.Places.{places_below}
+use Rattle.luks_audit_run.specs.Search.{SearchModel}
+use Rattle.luks_audit_run.proofs.search.Search.next.Goals as goal
 
 pub returns-in-Found-clause-found : goal.returns-in-Found-clause-found
 returns-in-Found-clause-found g c image is =

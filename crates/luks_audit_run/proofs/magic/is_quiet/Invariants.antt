@@ -1,6 +1,6 @@
 use Rattle.std.proofs.Common.{◌≡◌, ◌<◌, ◌*◌, ℕ, drop, false}
-use Rattle.luks_search.specs.Magic.{begins_magic}
-use Rattle.luks_search.proofs.magic.is_quiet.Given as goal
+use Rattle.luks_audit_run.specs.Magic.{begins_magic}
+use Rattle.luks_audit_run.proofs.magic.is_quiet.Given as goal
 
 -- no sector before this one begins with the magic bytes
 abbrev pub invariant-loop-sector : goal.invariant-loop-sector

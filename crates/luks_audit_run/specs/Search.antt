@@ -1,12 +1,12 @@
 -- A search for headers in an image that is read once, from its start to its end.
 use Rattle.std.specs.Prelude.{◌≡◌, ◌≤◌, ◌+◌, ◌*◌, ◌++◌, ℕ, Bool, true, false, List, [], ◌∷◌, Option, Some, None, Result}
 use Rattle.std.specs.Prelude.{Ok, Err, drop}
-use Rattle.luks_search.specs.Places.{header_at, places_below, places_of}
-use Rattle.luks_search.specs.declared.place.SearchFault.{SearchFault}
-use Rattle.luks_search.specs.declared.place.SearchFault.TheVariants.{Read}
-use Rattle.luks_search.specs.declared.place.Place.{Place}
-use Rattle.luks_search.specs.declared.place.Step.{Step}
-use Rattle.luks_search.specs.declared.place.Step.TheVariants.{End, Skipped, Found}
+use Rattle.luks_audit_run.specs.Places.{header_at, places_below, places_of}
+use Rattle.luks_audit_run.specs.declared.place.SearchFault.{SearchFault}
+use Rattle.luks_audit_run.specs.declared.place.SearchFault.TheVariants.{Read}
+use Rattle.luks_audit_run.specs.declared.place.Place.{Place}
+use Rattle.luks_audit_run.specs.declared.place.Step.{Step}
+use Rattle.luks_audit_run.specs.declared.place.Step.TheVariants.{End, Skipped, Found}
 
 -- a search: the number of the next sector to try, the loaded bytes from there on, and whether the image ends after them
 pub record SearchModel : Type 0 where

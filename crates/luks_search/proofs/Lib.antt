@@ -1,2 +1,0 @@
-pub mod MagicLemmas
-pub mod PlaceLemmas

@@ -1,3 +1,0 @@
-pub mod Magic
-pub mod Places
-pub mod Search
