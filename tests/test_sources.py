@@ -1,5 +1,6 @@
 """The sources: names with two meanings, the order of the crates, counts of work, versions, links, and pages that are made
 from the sources. Nothing has to be built."""
+import ast
 import collections
 import re
 
@@ -194,3 +195,14 @@ def test_files_that_documents_name():
 def test_page_is_as_it_is_made(script):
     """The headline and the contracts from the sources, and the tables of SPEED.md from the results."""
     assert run(TOP / script, "--check", cwd=TOP).status == 0
+
+
+def test_quick_takes_no_memory_away():
+    """`make quick` runs tests by `rt try`, under which those that take memory away fail."""
+    quick = (TOP / "tests/quick").read_text()
+    rows = ast.literal_eval(re.search(r"^MODULES = (\{.*?^\})", quick, re.MULTILINE | re.DOTALL)[1])
+    left_out = {(crate, name.split("-")[0]): name.split("-")[1:] for crate, names in rows.items() for name in names}
+    scarce = [path for path in TOP.glob("crates/*_tests/src/tests/*/*.rt") if "Scarcity" in path.read_text()]
+    assert len(scarce) > 5
+    for path in scarce:
+        assert path.stem in left_out.get((path.parts[-5], path.parts[-2]), [path.stem]), path
