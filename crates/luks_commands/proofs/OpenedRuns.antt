@@ -1,7 +1,7 @@
 -- How the commands on volumes end after their volume was opened, and the counts of a run from those of its parts.
 use Rattle.std.proofs.Common.{◌≡◌, ℕ, ◌+◌, ◌*◌, ◌/◌, ◌<◌, ◌≤◌, List, Option, Some, ◌⊎◌, inl, inr, Bool, true, false}
 use Rattle.std.proofs.Common.{ap, refl, subst, sym, length, max, [], drop, length-drop, arith, ◌&&◌}
-use Rattle.std.proofs.Common.{◌∙◌, ◌^◌}
+use Rattle.std.proofs.Common.{◌^◌}
 use Rattle.luks_cipher.specs.Sector.{Cipher}
 use Rattle.std.proofs.Math.Nat.{div-eq_of_lt-le, mul-le-mul_right}
 use Rattle.std.specs.Prelude.{MatchBool}
@@ -12,7 +12,8 @@ use Rattle.luks_open.specs.declared.opening.Opened.{Opened}
 use Rattle.luks_payload.specs.Plain.{payload_end_of, sector_len, sector_start, sectors_of}
 use Rattle.luks_runs.proofs.PayloadLemmas.{plain_len}
 use Rattle.luks_runs.proofs.RunLemmas.{aborted_at, runs_printed}
-use Rattle.luks_commands.proofs.VolumeRuns.{same_segment_by, unlocking}
+use Rattle.luks_commands.proofs.VolumeRuns.{prompt_memory, same_segment_by, unlocking}
+use Rattle.luks_open.proofs.VolumeLemmas.{consumed_same}
 use Rattle.luks_runs.specs.Run.{Consumed, Outcome, Prints, Aborted, AnyPromptness, Completed, ConsumedNothing}
 use Rattle.luks_runs.specs.Run.{DetachedRunMatches, Promptness, RunEffects, RunMatches, aborts, is_run_read_failure}
 use Rattle.luks_runs.specs.Run.{is_run_write_failure}
@@ -21,7 +22,8 @@ use Rattle.luks_runs.specs.VolumeOutcome.{CommandOpeningMessage, ConsumesLoaded,
 use Rattle.luks_request.specs.Request.{Request, VolumeRequest, luks_cat}
 use Rattle.luks_commands.specs.Headline.{CatAllows, Change, ConsumedAtLeast, ConsumedOfPayload, CountsCalls}
 use Rattle.luks_commands.specs.Headline.{CountsReads}
-use Rattle.luks_commands.specs.Headline.{CountsTried, EndsWithoutKey, KnowsPayload, PromptCat, ReadsOnce, ReadsPayload}
+use Rattle.luks_commands.specs.Headline.{CountsTried, EndsWithoutKey, KnowsPayload, PromptCat, PromptOpening}
+use Rattle.luks_commands.specs.Headline.{ReadsOnce, ReadsPayload}
 use Rattle.luks_commands.specs.Headline.{Trial}
 use Rattle.luks_commands.specs.Unlocking.{Unlocks}
 use Rattle.luks_open.specs.Location.{reader_for, detached_header_of}
@@ -83,11 +85,14 @@ module _ (location : HeaderLocation) (slots : AllowedSlots) (image pass : List �
     (u : Unlocks (unlocking location slots image pass i s) segment opened loaded) where
   -- the line about the key slot was written, whole or in part, or memory for it ran out
   pub runs_slot : (w w' : Option (List ℕ)) (message : Message) → Prints (opened_line opened.slot) Done w w' message
-      → RunMatches AnyPromptness (volume_outcome_by (reader_for location) (slot_outcome pass) slots image pass) message
+      → RunMatches (PromptOpening location slots image)
+      (volume_outcome_by (reader_for location) (slot_outcome pass) slots image pass) message
       (ConsumedExactly image i) (ConsumedExactly pass s) (Appended w w')
   runs_slot w w' message printed = rw (u.outcome (slot_outcome pass))
-      (runs_printed (slot_outcome pass segment opened (length loaded)) (ConsumedExactly image i)
-      (ConsumedExactly pass s) w w' message u.input_consumed refl u.secret_consumed printed)
+      (runs_at AnyPromptness (PromptOpening location slots image) _ message _ ConsumedNothing
+      (λ consumed n any. prompt_memory location slots image message consumed n (λ is. inr (inr u.there)))
+      (λ count none. none) (runs_printed (slot_outcome pass segment opened (length loaded)) (ConsumedExactly image i)
+      (ConsumedExactly pass s) w w' message u.input_consumed refl u.secret_consumed printed))
 
 -- writing the line about the key slot ends with one of these messages, and reads nothing
 pub slot_message : (slot : ℕ) (w w' : Option (List ℕ)) (message : Message)
@@ -118,24 +123,29 @@ module _ (slots : AllowedSlots) (image pass : List ℕ) (segment : Segment) (ope
   pub runs_forwarded : (left i' w w' : Option (List ℕ)) (message : Message) → PayloadMessage message
       → ForwardsPayload segment (segment.mode, opened.key) image (length loaded) left w w' message
       → ((n : ℕ) → length loaded ≤ n → ConsumedExactly image left n → ConsumedExactly image i' n)
-      → RunMatches (PromptCat Attached image) (volume_outcome (payload_outcome Attached image pass) slots image pass)
+      → RunMatches (PromptCat Attached slots image)
+      (volume_outcome (payload_outcome Attached image pass) slots image pass)
       message (ConsumedExactly image i') (ConsumedExactly pass s) (Appended w w')
   runs_forwarded left i' w w' OutOfMemory only forwarded as_source = absurd only
   runs_forwarded left i' w w' ReadFailed only (end, later, count, position, whole, inside, consumption, output)
       as_source =
       rw (u.outcome (payload_outcome Attached image pass)) (aborted_at end 0 (length pass) (count * sector_len segment)
-      (omega (arith, plain_len segment image (segment.mode, opened.key), mul-le-mul_right (sector_len segment) whole))
-      (λ other is is_past_header. rw (same_segment_by header_of image segment other u.has is)
-      (ap (λ n. n * sector_len segment) position)) (omega (arith, inside)) (omega arith) (omega arith)
+      (omega (arith, plain_len segment image (segment.mode, opened.key), mul-le-mul_right (sector_len segment) whole)) (
+        tt,
+        λ other is is_past_header. rw (same_segment_by header_of image segment other u.has is)
+            (ap (λ n. n * sector_len segment) position),
+      ) (omega (arith, inside)) (omega arith) (omega arith)
       (as_source end later consumption) refl u.secret_consumed output)
   runs_forwarded left i' w w' WriteFailed only (count, written, few, less, inside, consumption, output) as_source =
       let end = max (length loaded) (sector_start segment (count + 1)) in
       let within = positioned_within segment image count written few less in
       rw (u.outcome (payload_outcome Attached image pass))
       (aborted_at end 0 (length pass) (count * sector_len segment + written)
-      (omega (arith, plain_len segment image (segment.mode, opened.key), within.0))
-      (λ other is. rw (same_segment_by header_of image segment other u.has is, within.1)
-      (omega (arith, u.no_further refl)))
+      (omega (arith, plain_len segment image (segment.mode, opened.key), within.0)) (
+        tt,
+        λ other is. rw (same_segment_by header_of image segment other u.has is, within.1)
+            (omega (arith, u.no_further refl)),
+      )
       (omega (arith, inside)) (omega arith) (omega arith) (as_source end (omega arith) consumption) refl
       u.secret_consumed output)
   runs_forwarded left i' w w' message only forwarded as_source =
@@ -161,14 +171,6 @@ module _ (slots : AllowedSlots) (image pass : List ℕ) (segment : Segment) (ope
         subst (ConsumedExactly image i) all u.input_consumed
 
 -- ---- what trying the key slots had consumed
-
--- the same bytes remain, so as many were consumed
-consumed_same : (known : List ℕ) (left : Option (List ℕ)) (m n : ℕ) → ConsumedExactly known left m
-    → ConsumedExactly known left n → m ≡ n
-consumed_same known left m n one other =
-    let same : Some (drop m known) ≡ Some (drop n known) = sym one.left ∙ other.left in
-    let rests : drop m known ≡ drop n known = cc in
-    omega (arith, ap length rests, length-drop m known, length-drop n known, one.within, other.within)
 
 -- forwarding a payload consumed at least the loaded bytes
 forwarded_at_least : (s : Segment) (cipher : Cipher) (image : List ℕ) (loaded : ℕ) (left before after : Option (List ℕ))
@@ -219,7 +221,7 @@ module _ (slots : AllowedSlots) (file image pass : List ℕ) (segment : Segment)
   -- the payload was forwarded, to its end or not
   pub detached_runs_forwarded : (message : Message) → PayloadMessage message
       → ForwardsPayload segment (segment.mode, opened.key) image 0 i' w w' message
-      → DetachedRunMatches (PromptCat Detached file)
+      → DetachedRunMatches (PromptCat Detached slots file)
       (volume_outcome_by detached_header_of (payload_outcome Detached image pass) slots file pass) message
       (record {
         input = ConsumedExactly file h;
@@ -231,9 +233,11 @@ module _ (slots : AllowedSlots) (file image pass : List ℕ) (segment : Segment)
   detached_runs_forwarded ReadFailed only (end, later, count, position, whole, inside, consumption, output) =
       rw (u.outcome (payload_outcome Detached image pass))
       (aborted_at (length loaded) end (length pass) (count * sector_len segment)
-      (omega (arith, plain_len segment image (segment.mode, opened.key), mul-le-mul_right (sector_len segment) whole))
-      (λ other is is_past_header. rw (same_segment_by detached_header_of file segment other u.has is)
-      (ap (λ n. n * sector_len segment) position))
+      (omega (arith, plain_len segment image (segment.mode, opened.key), mul-le-mul_right (sector_len segment) whole)) (
+        tt,
+        λ other is is_past_header. rw (same_segment_by detached_header_of file segment other u.has is)
+            (ap (λ n. n * sector_len segment) position),
+      )
       (omega arith) (omega (arith, inside)) (omega arith) u.input_consumed consumption u.secret_consumed output)
   detached_runs_forwarded WriteFailed only (count, written, few, less, inside, consumption, output) =
       let within = positioned_within segment image count written few less in
@@ -241,7 +245,7 @@ module _ (slots : AllowedSlots) (file image pass : List ℕ) (segment : Segment)
       (aborted_at (length loaded) (max 0 (sector_start segment (count + 1))) (length pass)
       (count * sector_len segment + written)
       (omega (arith, plain_len segment image (segment.mode, opened.key), within.0))
-      (λ other is. rw (same_segment_by detached_header_of file segment other u.has is, within.1) (omega arith))
+      (tt, λ other is. rw (same_segment_by detached_header_of file segment other u.has is, within.1) (omega arith))
       (omega arith) (omega (arith, inside)) (omega arith) u.input_consumed consumption u.secret_consumed output)
   detached_runs_forwarded message only forwarded =
       let all : max 0 (payload_end_of segment image) ≡ payload_end_of segment image = omega arith in

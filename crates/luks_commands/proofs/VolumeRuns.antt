@@ -1,14 +1,14 @@
 -- How the commands on volumes end if their volume is not opened, and what holds if it is.
 use Rattle.std.proofs.Common.{◌≡◌, ℕ, ◌+◌, ◌-◌, ◌*◌, ◌/◌, ◌≤◌, ◌⊎◌, inl, inr, Bool, List, Option, Some, Result, Ok, Err}
 use Rattle.std.proofs.Common.{◌∙◌, ap, sym, refl, length, max, arith, false, true, is_err}
-use Rattle.std.specs.Prelude.{MatchBool}
+use Rattle.std.specs.Prelude.{IsOk, MatchBool}
 use Rattle.std.specs.Result.{result_map_both}
 use Rattle.std.proofs.Math.Nat.{zero-div}
 use Rattle.luks_header.specs.Header.{header_read_len, header_of}
 use Rattle.luks_header.proofs.KnownLemmas.{is_attached}
 use Rattle.luks_format.specs.declared.segment.Segment.{Segment}
 use Rattle.luks_open.proofs.CallerLemmas.{key_areas_before_payload}
-use Rattle.luks_open.specs.Fault.{aborts_opening, has_fault, is_untried}
+use Rattle.luks_open.specs.Fault.{aborts_opening, has_fault, is_read_failure, is_untried}
 use Rattle.luks_kdf.specs.Pbkdf2.{capped}
 use Rattle.luks_open.specs.Opening.{OrderModel, order_within, work_of}
 use Rattle.luks_open.specs.declared.fault.OpenFault.{OpenFault}
@@ -31,9 +31,10 @@ use Rattle.luks_runs.proofs.OutcomeLemmas.{aborted_untried, message_says}
 use Rattle.luks_open.proofs.VolumeLemmas.{volume_with}
 use Rattle.luks_open.specs.KeyFile.{NoKeyFileRead, max_key_file_len}
 use Rattle.luks_open.specs.Location.{HeaderReader, reader_for}
-use Rattle.luks_runs.specs.Run.{Aborted, Completed, ConsumedNothing, IsPrefixLen}
+use Rattle.luks_runs.specs.Run.{Aborted, Completed, Consumed, ConsumedNothing, IsPrefixLen, aborts}
+use Rattle.luks_runs.specs.Run.{is_run_read_failure}
 use Rattle.luks_open.specs.Volume.{ConsumedUnless, ConsumesMaterial, CountsTrials, FindsNoVolume, FoundIn}
-use Rattle.luks_open.specs.Volume.{HasSegmentBy, OpeningMatches, TriesSlots, VolumeOpening}
+use Rattle.luks_open.specs.Volume.{HasSegmentBy, MayRunOut, OpeningMatches, TriesSlots, VolumeOpening}
 use Rattle.luks_runs.specs.VolumeOutcome.{OpeningMessage}
 use Rattle.luks_open.specs.Volume.{described, opened_of}
 use Rattle.luks_runs.specs.VolumeOutcome.{ends_untried}
@@ -45,7 +46,8 @@ use Rattle.luks_open.specs.declared.found.FoundVolume.{FoundVolume}
 use Rattle.luks_open.specs.declared.location.HeaderLocation.{HeaderLocation}
 use Rattle.luks_open.specs.declared.location.HeaderLocation.TheVariants.{Attached, Detached}
 use Rattle.luks_open.specs.declared.unlocked.UnlockedVolume.{UnlockedVolume}
-use Rattle.luks_commands.specs.Headline.{CountsTried, EndsUntried, PromptCat, PromptForwarding, Trial}
+use Rattle.luks_commands.specs.Headline.{CountsTried, EndsUntried, PromptCat, PromptForwarding, PromptOpening}
+use Rattle.luks_commands.specs.Headline.{PromptPayload, Trial}
 use Rattle.luks_commands.specs.Unlocking.{EndsLocked, Unlocking, Unlocks}
 
 -- opening a volume from an image and a key file, of which these bytes remained
@@ -107,12 +109,20 @@ no_further Detached slots image pass segment attached has = absurd cc
 -- a run that consumed no more than opening its volume does
 prompt_opening : (location : HeaderLocation) (slots : AllowedSlots) (image pass : List ℕ) (message : Message) (a b : ℕ)
     → a ≤ (volume_opening_by (reader_for location) slots image pass).consumed
-    → PromptCat location image message (record { input = a; payload = 0; secret = b }) 0
+    → PromptPayload location image message (record { input = a; payload = 0; secret = b }) 0
 prompt_opening Attached slots image pass message a b few = λ segment has.
     prompt_early segment (header_read_len image) message a
     (omega (arith, few, before_payload slots image pass segment has))
 prompt_opening Detached slots image pass message a b few =
     λ segment has. prompt_early segment 0 message 0 (omega arith)
+
+-- if memory ran out, it did where it may
+pub prompt_memory : (location : HeaderLocation) (slots : AllowedSlots) (image : List ℕ) (message : Message)
+    (consumed : Consumed) (n : ℕ)
+    → (message ≡ OutOfMemory → MayRunOut (reader_for location) slots image consumed.input)
+    → PromptOpening location slots image message consumed n
+prompt_memory location slots image OutOfMemory consumed n ran_out = ran_out refl
+prompt_memory location slots image _ consumed n ran_out = tt
 
 -- ---- the volume was not opened
 
@@ -129,17 +139,20 @@ module _ (location : HeaderLocation) (slots : AllowedSlots) (image pass : List �
   -- the volume was not opened, so whatever the command does with open volumes, the run has its outcome
   pub ends_locked : (fault : VolumeFault)
       → OpeningMatches opening image (Err fault) i
+      → (aborts_opening fault ≡ true → is_read_failure fault ≡ false → (count : ℕ) → ConsumedExactly image i count
+      → MayRunOut (reader_for location) slots image count)
       → ConsumedUnless (aborts_opening fault) pass s
       opening.secret_consumed
       → EndsLocked location slots image pass (message_for_volume fault) i s
   unfolding volume_outcome_by
-  ends_locked fault opens read on_opened consumes w =
+  ends_locked fault opens ran_out read on_opened consumes w =
       let says = message_says fault in
       rw (← says.aborted) (by (aborts_opening fault) opens.answer opens.consumed read)
     where
       by : (b : Bool) → (b ≡ false → Err fault ≡ opening.result) → ConsumedUnless b image i opening.consumed
           → ConsumedUnless b pass s opening.secret_consumed
-          → MatchBool b (Aborted (PromptCat location image) (outcome_after on_opened opening) (message_for_volume fault)
+          → MatchBool b (Aborted (PromptCat location slots image) (outcome_after on_opened opening)
+          (message_for_volume fault)
           (record {
             input = ConsumedExactly image i;
             payload = ConsumedNothing;
@@ -153,8 +166,12 @@ module _ (location : HeaderLocation) (slots : AllowedSlots) (image pass : List �
           }))
       by true answer (a, few, consumed) (b, fewer, read) =
           let within = opening_consumed location slots image pass on_opened consumes in
-          aborted_unwritten a b (unwritten (message_for_volume fault) _ (message_says fault).opening)
-          (prompt_opening location slots image pass (message_for_volume fault) a b few) (omega (arith, few, within.0))
+          let says = message_says fault in
+          aborted_unwritten a b (unwritten (message_for_volume fault) _ (message_says fault).opening) (
+            prompt_memory location slots image (message_for_volume fault) _ 0
+                (λ is. ran_out (says.aborted ∙ ap aborts is) (says.read ∙ ap is_run_read_failure is) a consumed),
+            prompt_opening location slots image pass (message_for_volume fault) a b few,
+          ) (omega (arith, few, within.0))
           (omega (arith, fewer, within.1)) consumed read
       by false answer consumed read = rw (← answer refl) (record
           { as_specified = refl; input = consumed; payload = refl; secret = read; output = appended-none w })
@@ -163,7 +180,8 @@ module _ (location : HeaderLocation) (slots : AllowedSlots) (image pass : List �
   pub locked_unfound : (fault : VolumeFault) → FindsNoVolume (reader_for location) slots image i fault → s ≡ Some pass
       → EndsLocked location slots image pass (message_for_volume fault) i s
   locked_unfound fault finds whole =
-      ends_locked fault (opens_unfound location slots image pass fault i finds) (by (aborts_opening fault) finds.none)
+      ends_locked fault (opens_unfound location slots image pass fault i finds) finds.ran_out
+      (by (aborts_opening fault) finds.none)
     where
       by : (b : Bool) → (b ≡ false → volume_by (reader_for location) slots image ≡ Err fault)
           → ConsumedUnless b pass s opening.secret_consumed
@@ -183,12 +201,15 @@ module _ (location : HeaderLocation) (slots : AllowedSlots) (image pass : List �
 
   -- a volume was found
   module _ (volume : FoundVolume) (left : Option (List ℕ)) (found : FoundIn location slots image volume left) where
+    there : IsOk (volume_by (reader_for location) slots image)
+    there = rw (is_volume location slots image pass volume left found) refl
+
     -- the key file was not read
     pub locked_unread : i ≡ left → (fault : PassphraseFault) → NoKeyFileRead pass s fault
         → EndsLocked location slots image pass (message_for_volume (Passphrase fault)) i s
     locked_unread same fault stop =
         let ends = opens_unread location slots image pass volume left found s fault stop in
-        ends_locked (Passphrase fault) (rw same ends.0) ends.1
+        ends_locked (Passphrase fault) (rw same ends.0) (λ aborted unread count consumption. inr (inr there)) ends.1
 
     module _ (area' : List ℕ) (result : Result UnlockedVolume VolumeFault)
         (tries : TriesSlots (described volume) area' pass result)
@@ -206,7 +227,8 @@ module _ (location : HeaderLocation) (slots : AllowedSlots) (image pass : List �
             ap (λ (o : VolumeOpening). o.secret_consumed)
             (opening_found_is location slots image pass volume left found)
             ∙ (area_within (described volume) image pass short).2 in
-            ends_locked fault (rw is at opens) (rw whole (consumed_all (aborts_opening fault) pass s _ read))
+            ends_locked fault (rw is at opens) (λ aborted unread count consumption. inr (inr there))
+            (rw whole (consumed_all (aborts_opening fault) pass s _ read))
 
         -- one of them opened
         pub unlocked_tried : (opened : UnlockedVolume) → result ≡ Ok opened
@@ -223,6 +245,7 @@ module _ (location : HeaderLocation) (slots : AllowedSlots) (image pass : List �
                   ap (outcome_by on_opened opening.consumed
                   opening.secret_consumed) (sym (ends.answer refl))
                   ∙ ap (on_opened opened.segment (opened_of opened)) (sym loaded.0);
+              there = there;
               has = has;
               no_further = λ attached. rw loaded.0 (no_further location slots image pass opened.segment attached has);
               prefix = rw loaded.0 loaded.1;

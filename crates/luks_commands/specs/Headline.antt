@@ -18,7 +18,7 @@ use Rattle.luks_runs.specs.Payload.{max_payload_end}
 use Rattle.luks_runs.specs.Run.{Promptness, AnyPromptness, is_run_read_failure}
 use Rattle.luks_runs.specs.Run.{is_run_write_failure, DetachedRunMatches, aborts, Outcome}
 use Rattle.luks_runs.specs.Stripe.{max_key_len, PromptSplit, merge_outcome, split_outcome}
-use Rattle.luks_open.specs.Volume.{HasSegmentBy, volume_by}
+use Rattle.luks_open.specs.Volume.{HasSegmentBy, MayRunOut, volume_by}
 use Rattle.luks_runs.specs.VolumeOutcome.{slot_outcome, OnOpened}
 use Rattle.luks_open.specs.Volume.{Volume, unlock_read_len}
 use Rattle.luks_runs.specs.VolumeOutcome.{volume_outcome_by, CommandOpeningMessage, OpeningMessage}
@@ -27,7 +27,7 @@ use Rattle.luks_runs.specs.VolumeOutcome.{payload_outcome}
 use Rattle.luks_runs.specs.Honest.{OpensHonest}
 use Rattle.luks_format.specs.declared.segment.Segment.{Segment}
 use Rattle.luks_report.specs.declared.message.Message.{Message}
-use Rattle.luks_report.specs.declared.message.Message.TheVariants.{Done, ReadFailed, WriteFailed}
+use Rattle.luks_report.specs.declared.message.Message.TheVariants.{Done, OutOfMemory, ReadFailed, WriteFailed}
 use Rattle.luks_header.specs.Header.{header_of, header_read_len}
 use Rattle.luks_kdf.specs.Pbkdf2.{capped}
 use Rattle.luks_open.specs.Opening.{work_of}
@@ -66,17 +66,29 @@ PromptForwarding s header_len ReadFailed consumed output = (header_len ≤ s.off
     → output ≡ (consumed - s.offset) / sector_len s * sector_len s
 PromptForwarding s header_len _ consumed output = Unit {0}
 
--- opening a volume or `luksCat` was aborted, and forwarding the payload was prompt. With a detached header, the payload
--- is in an image of its own, and no byte of that image is consumed for a header
-abbrev pub PromptCat : HeaderLocation → List ℕ → Promptness
-PromptCat Attached image message consumed output = (segment : Segment) → HasSegmentBy header_of image segment
+-- forwarding the payload was prompt. With a detached header, the payload is in an image of its own, and no byte of that
+-- image is consumed for a header
+abbrev pub PromptPayload : HeaderLocation → List ℕ → Promptness
+PromptPayload Attached image message consumed output = (segment : Segment) → HasSegmentBy header_of image segment
     → PromptForwarding segment (header_read_len image) message consumed.input output
-PromptCat Detached file message consumed output = (segment : Segment) → HasSegmentBy detached_header_of file segment
+PromptPayload Detached file message consumed output = (segment : Segment) → HasSegmentBy detached_header_of file segment
     → PromptForwarding segment 0 message consumed.payload output
+
+-- opening a volume was aborted: if memory ran out, it did where it may
+abbrev pub PromptOpening : HeaderLocation → AllowedSlots → List ℕ → Promptness
+PromptOpening location slots image OutOfMemory consumed output =
+    MayRunOut (reader_for location) slots image consumed.input
+PromptOpening location slots image _ consumed output = Unit {0}
+
+-- opening a volume or `luksCat` was aborted
+abbrev pub PromptCat : HeaderLocation → AllowedSlots → List ℕ → Promptness
+PromptCat location slots image message consumed output = PromptOpening location slots image message consumed output
+    × PromptPayload location image message consumed output
 
 -- how promptly a command ends if it is aborted, with this image, or this file with a detached header
 abbrev pub promptness_of : HeaderLocation → Request → List ℕ → Promptness
-promptness_of location (luks_cat o) image = PromptCat location image
+promptness_of location (test_passphrase o) image = PromptOpening location (pbkdf2_alone o.slots) image
+promptness_of location (luks_cat o) image = PromptCat location (pbkdf2_alone o.slots) image
 promptness_of location (af_split s) image = PromptSplit (length image)
 promptness_of location _ image = AnyPromptness
 

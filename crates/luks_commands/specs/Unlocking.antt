@@ -1,6 +1,6 @@
 -- Opening a volume by the passphrase in a key file: what it does to the devices, and what is known of the volume then.
 use Rattle.std.specs.Prelude.{◌≡◌, ℕ, max, List, length, Option}
-use Rattle.std.specs.Prelude.{◌≤◌, take, Result, Ok, Err}
+use Rattle.std.specs.Prelude.{◌≤◌, take, IsOk, Result, Ok, Err}
 use Rattle.luks_io.specs.Devices.{Appended, ConsumedExactly}
 use Rattle.luks_open.specs.declared.allowed.AllowedSlots.{AllowedSlots}
 use Rattle.luks_open.specs.Location.{reader_for}
@@ -8,7 +8,7 @@ use Rattle.luks_open.specs.declared.location.HeaderLocation.{HeaderLocation}
 use Rattle.luks_open.specs.declared.location.HeaderLocation.TheVariants.{Attached}
 use Rattle.luks_runs.specs.Run.{RunMatches}
 use Rattle.luks_runs.specs.VolumeOutcome.{ConsumesLoaded, OnOpened, volume_outcome_by}
-use Rattle.luks_open.specs.Volume.{HasSegmentBy}
+use Rattle.luks_open.specs.Volume.{HasSegmentBy, volume_by}
 use Rattle.luks_format.specs.declared.segment.Segment.{Segment}
 use Rattle.luks_report.specs.Faults.{message_for_volume}
 use Rattle.luks_report.specs.declared.message.Message.{Message}
@@ -23,7 +23,7 @@ abbrev pub EndsLocked : HeaderLocation → AllowedSlots → List ℕ → List �
     → Option (List ℕ) → Type 0
 EndsLocked location slots image secret message image' secret' =
     (on_opened : OnOpened) → ConsumesLoaded secret on_opened → (written : Option (List ℕ))
-    → RunMatches (PromptCat location image) (volume_outcome_by (reader_for location) on_opened slots image secret)
+    → RunMatches (PromptCat location slots image) (volume_outcome_by (reader_for location) on_opened slots image secret)
     message (ConsumedExactly image image') (ConsumedExactly secret secret') (Appended written written)
 
 -- an opening of a volume: from which bytes, and which of them remained
@@ -43,6 +43,7 @@ pub record Unlocks (from : Unlocking) (segment : Segment) (opened : Opened) (loa
   pub outcome : (on_opened : OnOpened)
       → volume_outcome_by (reader_for from.location) on_opened from.slots from.image from.secret
       ≡ on_opened segment opened (length loaded)
+  pub there : IsOk (volume_by (reader_for from.location) from.slots from.image)
   pub has : HasSegmentBy (reader_for from.location) from.image segment
   pub no_further : from.location ≡ Attached → length loaded ≤ max (header_read_len from.image) segment.offset
   pub prefix : loaded ≡ take (length loaded) from.image

@@ -61,6 +61,10 @@ mod volumes;
 /// consumed, except for the header. If a read fails, every whole sector that was consumed is
 /// written, unless a damaged primary header made the search for another one read into the payload.
 /// All this holds for images shorter than 2^64 bytes.
+///
+/// If memory runs out in `testPassphrase` or `luksCat`, no byte of a LUKS1 image was consumed, or
+/// some key slot can be tried. So "out of memory" never hides that a named key slot is not there.
+/// With LUKS2 it may: the tree of the JSON text is made after the header's last byte was consumed.
 pub fn execute<I: Source, K: Source, O: Sink>(
     alloc: Global,
     command: &Command<'_>,

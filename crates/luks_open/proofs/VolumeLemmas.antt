@@ -1,6 +1,6 @@
 -- Finding the volume of an image, and counts of its reads.
 use Rattle.std.proofs.Common.{◌≡◌, ◌∙◌, ℕ, ◌⊎◌, inl, inr, List, [], Option, Some, Ok, Err, true, false, ap, refl}
-use Rattle.std.proofs.Common.{Bool, sym, arith}
+use Rattle.std.proofs.Common.{Bool, sym, arith, drop, length-drop}
 use Rattle.std.specs.Prelude.{IsOk, Result, is_err}
 use Rattle.std.specs.Result.{result_map_both}
 use Rattle.luks_io.proofs.EffectLemmas.{reads_more}
@@ -24,7 +24,7 @@ use Rattle.luks_open.specs.declared.fault.VolumeFault.TheVariants.{Segment as Se
 use Rattle.luks_open.specs.declared.allowed.AllowedSlots.{AllowedSlots}
 use Rattle.luks_open.specs.Location.{LoadedFrom, reader_for}
 use Rattle.luks_open.specs.declared.location.HeaderLocation.{HeaderLocation}
-use Rattle.luks_open.specs.Volume.{FindsNoVolume, FindsVolume, Volume, volume_by}
+use Rattle.luks_open.specs.Volume.{FindsNoVolume, FindsVolume, MayRunOut, Volume, volume_by}
 use Rattle.luks_open.specs.declared.found.FoundVolume.{FoundVolume}
 use Rattle.std.proofs.Common.{◌≤◌, length}
 use Rattle.std.specs.Prelude.{◌==◌, if◌then◌else◌}
@@ -69,11 +69,29 @@ reads_on failed false ended' a b c first kept next = (ended', reads_more failed 
 
 -- ---- the header of an image
 
+-- the same bytes remain, so as many were consumed
+pub consumed_same : (known : List ℕ) (left : Option (List ℕ)) (m n : ℕ) → ConsumedExactly known left m
+    → ConsumedExactly known left n → m ≡ n
+consumed_same known left m n one other =
+    let same : Some (drop m known) ≡ Some (drop n known) = sym one.left ∙ other.left in
+    let rests : drop m known ≡ drop n known = cc in
+    omega (arith, ap length rests, length-drop m known, length-drop n known, one.within, other.within)
+
 -- the volume with this header, this segment and this order
 abbrev pub volume_with : Header → Segment → OrderModel → Volume
 volume_with header segment order = record { header = header; segment = segment; order = order }
 
 module _ (location : HeaderLocation) (slots : AllowedSlots) (image : List ℕ) (left : Option (List ℕ)) where
+  -- memory ran out before a header was read
+  ran_out_early : (ends ends' : ℕ) → ReadsNoHeader image left ends ends' HeaderMemory → (count : ℕ)
+      → ConsumedExactly image left count → MayRunOut (reader_for location) slots image count
+  ran_out_early ends ends' (inl ((some, few, consumption), same, none)) count is = inl (
+    omega (arith, few, consumed_same image left count some is consumption),
+    λ first. consumed_same image left count 0 is (none first),
+  )
+  ran_out_early ends ends' (inr (second, consumption)) count is =
+      inr (inl (second, consumed_same image left count _ is consumption.0))
+
   -- if there is no header, or reading it was aborted, no volume is found
   pub aborts_without_header : (ends ends' : ℕ) (fault : HeaderFault) → ReadsNoHeader image left ends ends' fault
       → FindsNoVolume (reader_for location) slots image left (HeaderNotRead fault)
@@ -82,18 +100,21 @@ module _ (location : HeaderLocation) (slots : AllowedSlots) (image : List ℕ) (
       record {
         none = λ never. absurd cc;
         memory = λ is. absurd cc;
+        ran_out = λ aborted unread. absurd cc;
         no_argon2 = λ slot memory is. cc;
         consumed = stop.0;
       }
   aborts_without_header ends ends' HeaderMemory stop = record {
     none = λ never. absurd cc;
     memory = λ is. absurd cc;
+    ran_out = λ aborted unread. ran_out_early ends ends' stop;
     no_argon2 = λ slot memory is. cc;
     consumed = memory_below image left ends ends' stop;
   }
   aborts_without_header ends ends' fault stop = record {
     none = λ never. rw (reading_fault location image fault stop.0) refl;
     memory = λ is. absurd cc;
+    ran_out = λ aborted. absurd cc;
     no_argon2 = λ slot memory is. cc;
     consumed = stop.1.0;
   }
@@ -108,6 +129,7 @@ module _ (location : HeaderLocation) (slots : AllowedSlots) (image : List ℕ) (
         record {
           none = λ never. rw (found, is) refl;
           memory = λ is. absurd cc;
+          ran_out = λ aborted. absurd cc;
           no_argon2 = λ slot memory same. cc;
           consumed = rest;
         }
@@ -118,12 +140,16 @@ module _ (location : HeaderLocation) (slots : AllowedSlots) (image : List ℕ) (
         → (fault ≡ Memory → IsOk (order_within header slots.named slots.limits))
         → FindsNoVolume (reader_for location) slots image left (Slots fault)
     unfolding volume_by
-    aborts_without_order segment is Memory why ordered = record {
-      none = λ never. absurd cc;
-      memory = λ same. rw (found, is) (in_order (order_within header slots.named slots.limits) (ordered refl));
-      no_argon2 = λ slot memory same. cc;
-      consumed = (header_read_len image, omega arith, rest);
-    }
+    aborts_without_order segment is Memory why ordered =
+        let there : IsOk (volume_by (reader_for location) slots image) =
+        rw (found, is) (in_order (order_within header slots.named slots.limits) (ordered refl)) in
+        record {
+          none = λ never. absurd cc;
+          memory = λ same. there;
+          ran_out = λ aborted unread count consumption. inr (inr there);
+          no_argon2 = λ slot memory same. cc;
+          consumed = (header_read_len image, omega arith, rest);
+        }
       where
         in_order : (r : Result OrderModel OpenFault) → IsOk r
             → IsOk (result_map_both (volume_with header segment) Slots r)
@@ -134,6 +160,7 @@ module _ (location : HeaderLocation) (slots : AllowedSlots) (image : List ℕ) (
         record {
           none = λ never. rw (found, is, none) refl;
           memory = λ same. absurd cc;
+          ran_out = λ aborted. absurd cc;
           no_argon2 = λ slot memory same. cc;
           consumed = rest;
         }

@@ -3,10 +3,11 @@
 use Rattle.std.specs.Prelude.{ℕ, ◌+◌, List, length, max, nat_lt, if◌then◌else◌, Option, Result, Ok, Err, ◌≡◌, take}
 use Rattle.std.specs.Prelude.{◌<◌, ◌≤◌, ◌⊎◌, Some, IsOk, Bool, false, true, MatchBool, drop, [], sum_by}
 use Rattle.std.specs.Result.{result_map_both}
-use Rattle.luks_header.specs.Header.{header_read_len, header_of}
+use Rattle.luks_header.specs.Header.{HasHeader2, header_read_len, header_of, probe_len}
 use Rattle.luks_header.specs.HeaderSegment.{segment_of}
 use Rattle.luks_header.specs.declared.header.Header.{Header}
 use Rattle.luks_format.specs.Area.{IsStart}
+use Rattle.luks_format.specs.Header1.{is_luks1}
 use Rattle.luks_format.specs.declared.fault.HeaderFault.{HeaderFault}
 use Rattle.luks_format.specs.declared.fault.HeaderFault.TheVariants.{Read as HeaderRead, Memory as HeaderMemory}
 use Rattle.luks_format.specs.declared.refusal.SegmentFault.{SegmentFault}
@@ -19,7 +20,7 @@ use Rattle.luks_open.specs.declared.fault.PassphraseFault.{PassphraseFault}
 use Rattle.luks_open.specs.declared.fault.PassphraseFault.TheVariants.{TooLong}
 use Rattle.luks_open.specs.declared.fault.VolumeFault.{VolumeFault}
 use Rattle.luks_open.specs.declared.fault.VolumeFault.TheVariants as V
-use Rattle.luks_open.specs.Fault.{aborts_opening, has_fault, is_untried}
+use Rattle.luks_open.specs.Fault.{aborts_opening, has_fault, is_read_failure, is_untried}
 use Rattle.luks_open.specs.declared.allowed.AllowedSlots.{AllowedSlots}
 use Rattle.luks_open.specs.declared.opening.Opened.{Opened}
 use Rattle.luks_open.specs.KeyFile.{max_key_file_len}
@@ -122,12 +123,21 @@ abbrev pub ConsumedUnless : Bool → List ℕ → Option (List ℕ) → ℕ → 
 ConsumedUnless aborted known left count =
     MatchBool aborted (ConsumedAtMost known left count) (ConsumedExactly known left count)
 
+-- memory may run out after this many bytes of the image were consumed: none if it is LUKS1, and otherwise fewer than
+-- the search for its header needs; all that are read for a binary LUKS2 header, before the tree of its JSON text; or
+-- any, if it has a volume, whose key slots can be tried
+abbrev pub MayRunOut : HeaderReader → AllowedSlots → List ℕ → ℕ → Type 0
+MayRunOut read slots image count = ((count < probe_len image) × (is_luks1 image ≡ true → count ≡ 0))
+    ⊎ ((HasHeader2 image × (count ≡ header_read_len image)) ⊎ IsOk (volume_by read slots image))
+
 -- no volume whose header is read in this way was found, for this reason: a read failed, memory ran out, or the image
 -- has none. No passphrase and no key area is read for that. Memory for key slots runs out only if some can be tried
 pub record FindsNoVolume (read : HeaderReader) (slots : AllowedSlots) (image : List ℕ) (left : Option (List ℕ))
     (fault : VolumeFault) : Type 0 where
   pub none : aborts_opening fault ≡ false → volume_by read slots image ≡ Err fault
   pub memory : fault ≡ V.Slots Memory → IsOk (volume_by read slots image)
+  pub ran_out : aborts_opening fault ≡ true → is_read_failure fault ≡ false → (count : ℕ)
+      → ConsumedExactly image left count → MayRunOut read slots image count
   pub no_argon2 : (slot memory : ℕ) → fault ≡ V.Argon2Memory slot memory → ⊥
   pub consumed : ConsumedUnless (aborts_opening fault) image left (header_read_len image)
 

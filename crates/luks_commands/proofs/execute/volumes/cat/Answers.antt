@@ -23,7 +23,8 @@ pub returns-in_err-unlocked-clause-run : goal.returns-in_err-unlocked-clause-run
 returns-in_err-unlocked-clause-run g c =
     let stop = c.in_err-unlocked.ensures in
     rw (given_error _ _ c.from_residual.ensures.1) (λ input is image knows pass has counted.
-    runs_at (PromptCat c.args.location input) (PromptCat c.args.location input) _ _ _ _
+    runs_at (PromptCat c.args.location (pbkdf2_alone c.args.args.now.slots) input)
+    (PromptCat c.args.location (pbkdf2_alone c.args.args.now.slots) input) _ _ _ _
     (λ consumed output prompt. prompt)
     (consumed_no_payload c.args.location (volume_request c.args.args.now) input image _ knows)
     (stop.err input is pass has (payload_outcome c.args.location image pass)
