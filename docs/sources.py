@@ -72,7 +72,7 @@ def definitions_of(crate, path):
 
 def types_of(crate, path):
     """The public types of a file in Rust, by their names, without their code. Of one with a model, which is what clauses
-    see, that stands in place of its fields."""
+    see, that stands in its place."""
     text, found = path.read_text(), {}
     models = {name: (model, value) for model, name, value in MODEL.findall(text)}
     for item in RUST.finditer(text):
@@ -88,7 +88,7 @@ def types_of(crate, path):
         lines = [line for line in text[item.start():end].split("\n") if line.strip()]
         if item[1] in models:
             model, value = models[item[1]]
-            lines = [lines[0].replace("{", "{ .. }"), f"{model} {{", f"    {value}", "}"]
+            lines = [f"{model} {{", f"    {value}", "}"]
         found[item[1]] = Definition(crate, path.name, item[1], comment, lines, {})
     return found
 
