@@ -1,10 +1,10 @@
 """Images of whole disks, with partition tables by sfdisk, and what can be in their partitions."""
 
-import os
 import re
 import struct
 
 from support import must
+from volumes import empty_file
 
 MIB = 1 << 20
 SECTOR = 512
@@ -19,9 +19,7 @@ def disk(path, label, rows, contents):
     for line in rows:
         start, length = re.match(r"start=(\d+), size=(\d+)", line).groups()
         ends.append((int(start) + int(length)) * SECTOR)
-    path.touch()
-    os.truncate(path, max(ends) + 2 * MIB)
-    must("sfdisk", "-q", path, stdin="\n".join([f"label: {label}", *rows, ""]).encode())
+    must("sfdisk", "-q", empty_file(path, max(ends) + 2 * MIB), stdin="\n".join([f"label: {label}", *rows, ""]).encode())
     with open(path, "r+b") as file:
         for offset, content in contents.items():
             file.seek(offset)
@@ -37,8 +35,7 @@ def row(start, length, kind, name=""):
 
 def file_system(path, kind, length, label, folder=None):
     """The bytes of a file system of this length with this label, and with the files in a folder."""
-    path.touch()
-    os.truncate(path, length)
+    empty_file(path, length)
     if kind == "vfat":
         must("mkfs.vfat", "-n", label, path)
     else:
@@ -46,6 +43,21 @@ def file_system(path, kind, length, label, folder=None):
     content = path.read_bytes()
     path.unlink()
     return content
+
+
+def lvm_over(folder, *devices, settings=""):
+    """lvm(LINE) runs a command of LVM2, which looks at nothing but these devices, and gives what it
+    prints."""
+    seen = ", ".join(f'"a|^{device}$|"' for device in devices)
+    config = f"""devices {{ filter = [{seen}, "r|.*|"] use_devicesfile = 0 {settings} }}
+        global {{ use_lvmpolld = 0 locking_dir = "{folder}" }}
+        activation {{ udev_sync = 0 udev_rules = 0 }} backup {{ backup = 0 archive = 0 }}"""
+
+    def lvm(line):
+        command, *words = line.split()
+        return must("lvm", command, "--driverloaded", "n", "--config", config, *words).decode()
+
+    return lvm
 
 
 def bitlocker(length):

@@ -15,7 +15,8 @@ from pathlib import Path
 import volumes
 from reported import dump_of, reported
 from support import NO_KEY, expect
-from volumes import copy_of, cryptsetup, passphrases, payload_start, slot_by_cryptsetup, with_own_uuid
+from volumes import (copy_of, cryptsetup, empty_file, passphrases, payload_start, slot_by_cryptsetup,
+                     with_own_uuid)
 
 PLAIN = random.Random("plain").randbytes(303104)
 # whole sectors of 512 bytes, but not of 1024
@@ -134,9 +135,7 @@ class Volumes:
 
 def format2(image, line):
     """An empty LUKS2 volume of 20 MiB."""
-    image.write_bytes(b"")
-    os.truncate(image, 20 << 20)
-    cryptsetup(f"luksFormat {OF_LUKS2} {line}", image, cwd=passphrases(image.parent))
+    cryptsetup(f"luksFormat {OF_LUKS2} {line}", empty_file(image, 20 << 20), cwd=passphrases(image.parent))
 
 
 def make_several(image):

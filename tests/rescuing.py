@@ -131,24 +131,6 @@ class Terminal:
 
 
 
-def memory_of(process):
-    """What is in the memory of a process."""
-    found = []
-    folder = f"/proc/{process}"
-    with open(f"{folder}/maps", encoding="utf-8") as maps, open(f"{folder}/mem", "rb", buffering=0) as memory:
-        for line in maps:
-            words = line.split()
-            start, end = (int(word, 16) for word in words[0].split("-"))
-            if "r" not in words[1] or line.rstrip().endswith(("[vvar]", "[vsyscall]")):
-                continue
-            memory.seek(start)
-            try:
-                found.append(memory.read(end - start))
-            except OSError:
-                continue
-    return b"".join(found)
-
-
 def make_failing_reads(path):
     must("cc", "-O1", "-Wall", "-Wextra", "-Werror", "-shared", "-fPIC", "-o", path, TOP / "tests/failing_reads.c",
          "-ldl")

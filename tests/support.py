@@ -1,5 +1,6 @@
 """How the tests run a program and compare how it ended, and what they need of the system."""
 import contextlib
+import errno
 import functools
 import hashlib
 import json
@@ -151,6 +152,43 @@ def must(*command, **how):
     ended = run(*command, **how)
     assert ended.status == 0, (command, ended)
     return ended.output
+
+
+def limited(option, kib):
+    """The command before one that gets so many KiB of this by ulimit."""
+    return ["bash", "-c", f'ulimit {option} {kib}; exec "$@"', "bash"]
+
+
+def memory_of(process, rights="r"):
+    """What is in the memory of a process with these rights: where each range starts, and its bytes. What may be written
+    can be read; what has other rights may be a page of the kernel."""
+    with open(f"/proc/{process}/maps", encoding="utf-8") as maps, open(f"/proc/{process}/mem", "rb", 0) as memory:
+        for addresses, has, *names in map(str.split, maps):
+            if not has.startswith(rights) or names[-1] in ("[vvar]", "[vsyscall]"):
+                continue
+            start, end = (int(digits, 16) for digits in addresses.split("-"))
+            memory.seek(start)
+            try:
+                content = memory.read(end - start)
+            except OSError:
+                assert "w" not in has, (addresses, has, names)
+                continue
+            yield start, content
+
+
+def fails_from(monkeypatch, path, end):
+    """os.readv gives the bytes of this file before this one, and then fails."""
+    readv, file = os.readv, os.stat(path)
+
+    def failing(descriptor, buffers):
+        if not os.path.samestat(os.fstat(descriptor), file):
+            return readv(descriptor, buffers)
+        there = end - os.lseek(descriptor, 0, os.SEEK_CUR)
+        if there <= 0:
+            raise OSError(errno.EIO, "a part of the disk is gone")
+        return readv(descriptor, [buffers[0][:there]])
+
+    monkeypatch.setattr(os, "readv", failing)
 
 
 def reader_that_goes_away(program, line, stdin=None):

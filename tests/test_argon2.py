@@ -10,7 +10,7 @@ import pytest
 import volumes
 from argon2_slots import Cost, rewrite
 from serving import connected, read
-from support import NO_KEY, TOP, expect, must, needs, run, runs_v3
+from support import NO_KEY, TOP, expect, limited, must, needs, run, runs_v3
 from test_plugin import found
 from volumes import PASS, PASS2, copy_of, cryptsetup
 
@@ -378,7 +378,7 @@ def test_named_slot_over_a_limit(way, image):
 
 # ---- memory
 
-LITTLE = ["bash", "-c", 'ulimit -v 2000000; exec "$@"', "-"]
+LITTLE = limited("-v", 2000000)
 
 
 def test_refused_memory(way, image):

@@ -15,7 +15,7 @@ import pytest
 from kinds import START, VOLUME1, VOLUME2
 from serving import (by_filter, connected, in_threads, needs_nbdkit, read, read_all,  # noqa: F401
                      reads_ranges)
-from support import must, needs
+from support import limited, must, needs
 from volumes import copy_of, cryptsetup, edit_metadata, nested_header, overwrite, with_own_uuid
 
 pytestmark = needs_nbdkit
@@ -223,17 +223,12 @@ def test_a_second_connection(exports):
     assert (sizes, said.count(NO_LUKS), said.count(REFUSED_BEFORE)) == ([None, None], 1, 1)
 
 
-def within(kib):
-    """The command before one that gets so much address space."""
-    return ["bash", "-c", f'ulimit -Sv {kib}; exec "$@"', "bash"]
-
-
 @pytest.mark.parametrize("key", ["pass2", "wrong"])
 def test_refused_memory_of_argon2(by_filter, tmp_path, key):
     """The header asks for it each time, so the second client is refused at once: no key is derived for it."""
     image = copy_of(by_filter.kinds / "argon2", tmp_path / "image")
     edit_metadata(image, lambda tree: tree["keyslots"]["1"]["kdf"].update(memory=4194304))
-    server = by_filter.serve("file", image, f"key-file={key}", before=within(2000000))
+    server = by_filter.serve("file", image, f"key-file={key}", before=limited("-Sv", 2000000))
     assert [export_size(server.uri, "") for _ in range(3)] == [None] * 3
     said = server.said()
     assert said.count("luksrd: out of memory: Argon2 needs 4194304 KiB for key slot 1\n") == 1, said
@@ -244,7 +239,7 @@ def test_other_memory_that_is_short(by_filter, tmp_path):
     """If there is none for what is in the header, each later client tries again."""
     image = tmp_path / "image"
     image.write_bytes(nested_header(4 << 20, b'{"":' * 100 + b"0" + b"}" * 100, 8300))
-    server = by_filter.serve("file", image, PASS, before=within(400000))
+    server = by_filter.serve("file", image, PASS, before=limited("-Sv", 400000))
     assert [export_size(server.uri, "") for _ in range(2)] == [None] * 2
     assert server.said().count("luksrd: out of memory\n") == 2, server.said()
     resource.prlimit(server.process.pid, resource.RLIMIT_AS, (resource.RLIM_INFINITY, resource.RLIM_INFINITY))

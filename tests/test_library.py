@@ -152,11 +152,8 @@ def test_fields(in_c, kinds, tmp_path, size, wanted):
 
 def test_a_header_that_ends_in_an_area_of_argon2(in_c, kinds, tmp_path):
     """The key areas of all slots that are tried are needed, also if an earlier slot opens: slot 0 here."""
-    slots = volumes.metadata(kinds / "argon2")[0]["keyslots"]
-    areas = [int(slots[number]["area"]["offset"]) for number in "01"]
-    assert areas[0] < areas[1] and [slots[number]["kdf"]["type"] for number in "01"] == ["pbkdf2", "argon2id"]
     cut = tmp_path / "cut"
-    cut.write_bytes((kinds / "argon2").read_bytes()[:areas[1] + 512])
+    cut.write_bytes(kinds.head_of_argon2())
 
     def ends(slot, memory, none, message=""):
         expect(in_c("limited", "argon2", cut, "pass", slot, memory, "0", none),
@@ -234,8 +231,7 @@ def make_of_key(kind, cached, kinds):
     """A volume whose volume key is given to cryptsetup; it may give the digest more iterations than
     it was asked for."""
     def make(path):
-        path.write_bytes(b"")
-        os.truncate(path, 20 << 20)
+        volumes.empty_file(path, 20 << 20)
         (path.parent / "the-key").write_bytes(KEY)
         cryptsetup(f"luksFormat --type {kind} --pbkdf pbkdf2 --pbkdf-force-iterations 1000 "
                    "--cipher aes-xts-plain64 --key-size 512 --volume-key-file the-key --key-file",
@@ -330,10 +326,8 @@ def test_headers_of_luks1(in_c, cached, kinds):
 def test_headers_of_luks2(in_c, cached, kinds, tmp_path, size):
     """Both have the size that cryptsetup was asked for. One that is whole and valid is enough."""
     def make(path):
-        path.write_bytes(b"")
-        os.truncate(path, 20 << 20)
         cryptsetup("luksFormat --type luks2 --pbkdf pbkdf2 --pbkdf-force-iterations 1000 "
-                   f"--luks2-metadata-size {size} --key-file", kinds / "pass", path)
+                   f"--luks2-metadata-size {size} --key-file", kinds / "pass", volumes.empty_file(path, 20 << 20))
 
     image = cached(f"headers-{size}", make)
     lengths = [0, 4096, size - 1, size, 2 * size - 1, 2 * size, 4 * size]
@@ -411,8 +405,7 @@ def test_stack(build, library, each_library, tmp_path, kind, cipher, bits, hash_
     """Each call needs no more stack than luksrd.h states, and leaves no part of a secret on it."""
     image, secret, derived = (tmp_path / name for name in ("image", "secret", "derived"))
     secret.write_bytes(SECRET)
-    image.touch()
-    os.truncate(image, 20 << 20)
+    volumes.empty_file(image, 20 << 20)
     cryptsetup(f"luksFormat --type {kind} --pbkdf pbkdf2 --pbkdf-force-iterations 1000 --cipher",
                cipher, "--key-size", str(bits), "--hash", hash_, "--key-file", secret, image)
     if isinstance(change, Cost):

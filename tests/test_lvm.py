@@ -4,25 +4,18 @@ that lvs reports, and `luksrd-rescue decrypt --lv` writes them out of a LUKS vol
 import os
 import pathlib
 import struct
-import sys
 import types
 import zlib
 
+import luksrd_lvm
 import pytest
 import volumes
+from disks import lvm_over
 from rescuing import says
-from support import TOP, must
-from volumes import copy_of, overwrite
-
-sys.path.insert(0, str(TOP / "python"))
-import luksrd_lvm  # noqa: E402  pylint: disable=wrong-import-position
+from volumes import copy_of, empty_file, overwrite
 
 MIB = 1 << 20
 AREA = 4096  # where the metadata area starts
-CONFIG = """devices {{ filter = [{devices}, "r|.*|"] use_devicesfile = 0
-    data_alignment_detection = 0 default_data_alignment = 0 }}
-    global {{ use_lvmpolld = 0 locking_dir = "{folder}" }}
-    activation {{ udev_sync = 0 udev_rules = 0 }} backup {{ backup = 0 archive = 0 }}"""
 SETUP = """pvcreate -q --metadatasize 32k --dataalignment 4k FIRST SECOND
 vgcreate -q -s 1M --setautoactivation n vg FIRST SECOND
 lvcreate -q -an -Zn -Wn -n root -l 8 vg FIRST
@@ -102,18 +95,9 @@ def group(loop, cached, tmp_path):
     that wraps, and the places that LVM2 reports of both."""
     def make(folder):
         folder.mkdir()
-        for name in ("first", "second"):
-            (folder / name).touch()
-            os.truncate(folder / name, 32 * MIB)
-        devices = [loop(folder / name) for name in ("first", "second")]
-        config = CONFIG.format(devices=", ".join(f'"a|^{device}$|"' for device in devices),
-                               folder=folder)
-
-        def lvm(line):
-            command, *words = line.replace("FIRST", devices[0]).replace("SECOND", devices[1]).split()
-            return must("lvm", command, "--driverloaded", "n", "--config", config, *words).decode()
-
-        for line in SETUP.splitlines():
+        devices = [loop(empty_file(folder / name, 32 * MIB)) for name in ("first", "second")]
+        lvm = lvm_over(folder, *devices, settings="data_alignment_detection = 0 default_data_alignment = 0")
+        for line in SETUP.replace("FIRST", devices[0]).replace("SECOND", devices[1]).splitlines():
             lvm(line)
         names = lvm("lvs --noheadings -o lv_name vg").split()
         assert sorted(names) == NAMES

@@ -7,8 +7,8 @@ from pathlib import Path
 import pytest
 import volumes
 from kinds import VOLUME2
-from rescuing import Terminal, memory_of, says
-from support import needs, processes_of, wait_until
+from rescuing import Terminal, says
+from support import limited, memory_of, needs, processes_of, wait_until
 from volumes import PASS, PASS2, WRONG
 
 QUICK2 = "--pbkdf pbkdf2 --pbkdf-force-iterations 1000"
@@ -117,7 +117,7 @@ def test_passphrase_is_overwritten(rescue, disk2, tmp_path, kdf):
     with Terminal(rescue, "decrypt", "disk.img", "-o", "-", stdout=writing) as terminal:
         terminal.asked().type(secret + b"\n").until(rb"trying key slot")
         wait_until(lambda: has_something(reading))
-        assert secret not in memory_of(terminal.process.pid)
+        assert secret not in b"".join(dict(memory_of(terminal.process.pid)).values())
         while terminal.process.poll() is None:
             has_something(reading)
     os.close(reading)
@@ -174,7 +174,7 @@ def test_argon2_over_the_limits(rescue, argon2):
     (rescue.folder / "lines").write_bytes(PASS)
     ended = rescue("try", argon2, "--candidates", "lines")
     says(ended, "no key slot can be tried", *words, status=1)
-    little = ["bash", "-c", 'ulimit -v 4000000; exec "$@"', "-"]
+    little = limited("-v", 4000000)
     ended = rescue("decrypt", argon2, "--key-file", "pass", "--key-slot", "0", "-o", "plain", before=little)
     says(ended, "key slot 0: out of memory: Argon2 needs 8388608 KiB for key slot 0", "no key slot could be tried",
          status=3)

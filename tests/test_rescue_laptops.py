@@ -10,11 +10,11 @@ import types
 import pytest
 import volumes
 from argon2_slots import Cost
-from disks import EFI, LUKS, MIB, disk, file_system, row
+from disks import EFI, LUKS, MIB, disk, file_system, lvm_over, row
 from rescuing import Terminal, disk_by_nbdfuse
 from documents import document
 from support import alone, lack_of, must, namespace, needs, run, wait_until
-from volumes import PASS, copy_of, cryptsetup, luks1, passphrases
+from volumes import PASS, copy_of, cryptsetup, empty_file, luks1, passphrases
 
 pytestmark = needs("partx", "sfdisk", "cryptsetup", "mke2fs")
 FSTAB = b"/dev/vg0/root / ext4 defaults 0 1\n"
@@ -30,8 +30,7 @@ def with_fstab(folder, kind, length):
     if kind != "xfs":
         return file_system(folder / "fs", kind, length, "rootfs", folder / "files")
     (folder / "prototype").write_text("/\n0 0\nd--755 0 0\netc d--755 0 0\nfstab ---644 0 0 files/etc/fstab\n$\n$\n")
-    (folder / "fs").touch()
-    os.truncate(folder / "fs", length)
+    empty_file(folder / "fs", length)
     must("mkfs.xfs", "-q", "--unsupported", "-L", "rootfs", "-p", "prototype", "fs", cwd=folder)
     return (folder / "fs").read_bytes()
 
@@ -46,24 +45,14 @@ def encrypted(path, plain, kdf):
 
 
 def physical_volume(folder, loop, root, swap_length, pieces):
-    """A physical volume of LVM2 with a logical volume of swap space and one with this file system, in one piece or
-    two."""
-    path = folder / "physical"
-    path.touch()
-    os.truncate(path, 4 * MIB + len(root) + swap_length)
+    """A physical volume of LVM2 with a logical volume of swap space, unless its length is 0, and one with this file
+    system, in one piece or two."""
+    path = empty_file(folder / "physical", 4 * MIB + len(root) + swap_length)
     device = loop(path)
-    config = f"""devices {{ filter = ["a|^{device}$|", "r|.*|"] use_devicesfile = 0 }}
-        global {{ locking_dir = "{folder}" }}
-        activation {{ udev_sync = 0 udev_rules = 0 }} backup {{ backup = 0 archive = 0 }}"""
-
-    def lvm(line):
-        command, *words = line.split()
-        return must("lvm", command, "--driverloaded", "n", "--config", config, *words).decode()
-
-    first = len(root) // MIB - 4 * (pieces - 1)
+    lvm, first = lvm_over(folder, device), len(root) // MIB - 4 * (pieces - 1)
     for line in (f"pvcreate -q {device}", f"vgcreate -q -s 1M --setautoactivation n vg0 {device}",
                  f"lvcreate -q -an -Zn -Wn -n root -l {first} vg0",
-                 f"lvcreate -q -an -Zn -Wn -n swap -l {swap_length // MIB} vg0",
+                 *([f"lvcreate -q -an -Zn -Wn -n swap -l {swap_length // MIB} vg0"] if swap_length else []),
                  *["lvextend -q -l +4 vg0/root"] * (pieces - 1)):
         lvm(line)
     start = int(lvm(f"pvs --noheadings --units b --nosuffix -o pe_start {device}"))
@@ -266,8 +255,7 @@ def documented_disk(folder, text):
     passphrases(folder)
     path = folder / "laptop.img"
     for name, length in ("volume", 20 * MIB), ("laptop.img", 16 << 30):
-        (folder / name).touch()
-        os.truncate(folder / name, length)
+        empty_file(folder / name, length)
     must("sfdisk", "-q", path, stdin=b"label: gpt\nstart=2048, size=1048576, type=uefi, name=\"EFI System Partition\"\n"
          b"size=1048576, type=linux\nsize=+, type=linux\n")
     cryptsetup("luksFormat --type luks2 --key-file pass --pbkdf pbkdf2 --pbkdf-force-iterations 1000 --uuid", uuid,
@@ -276,8 +264,7 @@ def documented_disk(folder, text):
     cost = Cost("argon2id", 4, 1 << 20, 4)
     volumes.edit_metadata(folder / "volume", lambda tree: tree["keyslots"]["0"].update(kdf=cost.members()))
     for name in "efi", "boot":
-        (folder / name).touch()
-        os.truncate(folder / name, 512 * MIB)
+        empty_file(folder / name, 512 * MIB)
     must("mkfs.vfat", "-n", "ESP", folder / "efi")
     must("mke2fs", "-q", "-t", "ext4", "-L", "boot", folder / "boot")
     for name, offset in {"efi": 1, "boot": 513, "volume": 1025}.items():
@@ -305,27 +292,11 @@ def test_what_look_prints(rescue, tmp_path):
     assert commands(steps) == commands(wanted_steps)
 
 
-def one_logical_volume(folder, loop, content):
-    """A physical volume of LVM2 whose only logical volume has this content."""
-    path = folder / "physical"
-    path.touch()
-    os.truncate(path, len(content) + 4 * MIB)
-    device = loop(path)
-    config = f"""devices {{ filter = ["a|^{device}$|", "r|.*|"] use_devicesfile = 0 }} backup {{ backup = 0 archive = 0 }}
-        global {{ locking_dir = "{folder}" }} activation {{ udev_sync = 0 udev_rules = 0 }}"""
-    for line in (f"pvcreate -q {device}", f"vgcreate -q -s 1M --setautoactivation n vg0 {device}",
-                 f"lvcreate -q -an -Zn -Wn -n root -l {len(content) // MIB} vg0"):
-        command, *words = line.split()
-        must("lvm", command, "--driverloaded", "n", "--config", config, *words)
-    volumes.overwrite(path, MIB, content)
-    return path.read_bytes()
-
-
 def test_what_decrypt_prints(rescue, loop, tmp_path):
     """What README shows, but for the sizes: LVM in a volume, and an ext4 file system in a logical volume."""
     wanted = shown_in("README.md", "plain.img: ")
     root = file_system(tmp_path / "fs", "ext4", 12 * MIB, "root")
-    encrypted(tmp_path / "laptop.img", one_logical_volume(tmp_path, loop, root), "argon2id")
+    encrypted(tmp_path / "laptop.img", physical_volume(tmp_path, loop, root, 0, 1), "argon2id")
     ended = rescue("decrypt", "laptop.img", "--key-file", "pass", "-o", "plain.img")
     assert ended.status == 0, ended
 

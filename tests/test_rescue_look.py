@@ -115,8 +115,7 @@ def test_sectors_of_4096_bytes(rescue, laptop, loop, tmp_path, label):
     """A device says it, and so does a GPT. In the image of a disk with an MBR nothing does: there the partitions seem to
     be elsewhere, and a search finds the volume."""
     content = laptop.volume.read_bytes()
-    (tmp_path / "big.img").touch()
-    os.truncate(tmp_path / "big.img", 16 * MIB)
+    volumes.empty_file(tmp_path / "big.img", 16 * MIB)
     device = loop("big.img", "-b", "4096")
     must("sfdisk", "-q", device, stdin=f"label: {label}\nstart={MIB // 4096}, size={2 * MIB // 4096}\n"
          f"start={4 * MIB // 4096}, size={8 * MIB // 4096}\n".encode())

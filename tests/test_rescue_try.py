@@ -11,8 +11,7 @@ import pytest
 import volumes
 from disks import LUKS, MIB, disk, row
 from kinds import VOLUME1, VOLUME2
-from rescuing import memory_of
-from support import needs, run, wait_until
+from support import memory_of, needs, run, wait_until
 from volumes import PASS, PASS2, by_qemu, copy_of, cryptsetup
 
 # passphrases that a program could misread
@@ -234,7 +233,7 @@ def test_candidates_are_overwritten(rescue, disk2, tmp_path, lines, there, wiped
     run = rescue.changed(STOP, *lines).start("try", "disk.img", "--candidates", "list", "--jobs", "1", "--quiet",
                                              stdin=subprocess.PIPE)
     assert run.stdout.readline() == b"stopped\n", run.communicate()
-    memory = memory_of(run.pid)
+    memory = b"".join(dict(memory_of(run.pid)).values())
     found = {number for number, secret in enumerate(SECRETS) if secret in memory}
     assert found >= there and not found & wiped
     assert b"line 3 opens key slot 2" in run.communicate(b"")[0] and run.returncode == 0
