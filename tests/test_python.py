@@ -6,7 +6,6 @@ import contextlib
 import copy
 import ctypes
 import errno
-import functools
 import gc
 import io
 import mmap
@@ -27,7 +26,7 @@ import pytest
 import volumes
 from kinds import (BY_VOLUME_KEY, KINDS, REFUSED, START, VOLUME1, VOLUME2, each_kind,
                    volume_key_options)
-from support import TOP, expect, must, needs, run
+from support import TOP, expect, fails_from, must, needs, run
 
 
 @pytest.fixture(autouse=True)
@@ -46,8 +45,7 @@ def text(kinds):
 
 def open_kind(image):
     kind = KINDS[image]
-    with warnings.catch_warnings():
-        warnings.simplefilter("ignore", luksrd.IncompleteImageWarning)
+    with warnings.catch_warnings(action="ignore", category=luksrd.IncompleteImageWarning):
         return luksrd.open(image, key_file=kind.key, header=kind.header or None)
 
 
@@ -63,10 +61,18 @@ def descriptors():
 
 @each_kind
 def test_whole(kind, text):
-    with open_kind(kind.image) as volume:
+    """An incomplete image has luksCat's message and status, and opening it warns of that."""
+    with warnings.catch_warnings(record=True, action="always") as caught:
+        volume = luksrd.open(kind.image, key_file=kind.key, header=kind.header or None)
+    said = [str(warning.message) for warning in caught
+            if warning.category is luksrd.IncompleteImageWarning]
+    assert said == ([f"{kind.image}: {kind.message}"] if kind.message else [])
+    with volume:
+        ending = volume.incomplete
         assert volume.size == len(text(kind.image))
         assert volume.read() == text(kind.image)
         assert volume.read() == b"" and volume.tell() == volume.size
+    assert (ending.status, str(ending)) == (4, kind.message) if kind.message else ending is None
 
 
 @each_kind
@@ -87,20 +93,6 @@ def test_ranges(kind, text):
             assert volume.tell() == offset + got
 
 
-@each_kind
-def test_ending(kind):
-    """An incomplete image has luksCat's message and status, and opening it warns of that."""
-    with open_kind(kind.image) as volume:
-        ending = volume.incomplete
-    assert (ending.status, str(ending)) == (4, kind.message) if kind.message else ending is None
-    with warnings.catch_warnings(record=True) as caught:
-        warnings.simplefilter("always")
-        luksrd.open(kind.image, key_file=kind.key, header=kind.header or None).close()
-    said = [str(warning.message) for warning in caught
-            if warning.category is luksrd.IncompleteImageWarning]
-    assert said == ([f"{kind.image}: {kind.message}"] if kind.message else [])
-
-
 def test_past_the_end(volume):
     assert volume.pread(10, volume.size) == volume.pread(10, volume.size + 2 ** 70) == b""
     assert volume.seek(5, os.SEEK_END) == volume.size + 5
@@ -113,20 +105,15 @@ def test_seek(volume, text):
     assert volume.read(7) == wanted[100:107] and volume.tell() == 107
     assert volume.seek(-3, os.SEEK_CUR) == 104 and volume.seek(-2, 2) == volume.size - 2
     assert volume.read(10) == wanted[-2:]
-    for offset, whence in ((-1, 0), (-volume.size - 1, 2), (0, 3)):
-        with pytest.raises(ValueError):
-            volume.seek(offset, whence)
-    for arguments in ((-1, 0), (1, -1)):
-        with pytest.raises(ValueError):
-            volume.pread(*arguments)
+    for call, *arguments in ((volume.seek, -1, 0), (volume.seek, -volume.size - 1, 2), (volume.seek, 0, 3),
+                             (volume.pread, -1, 0), (volume.pread, 1, -1)):
+        pytest.raises(ValueError, call, *arguments)
 
 
 def test_whole_numbers_alone(volume, text):
     for wrong in 1.5, "1", None:
-        for call in (volume.seek, functools.partial(volume.pread, 1),
-                     functools.partial(volume.pread_into, bytearray(1))):
-            with pytest.raises(TypeError):
-                call(wrong)
+        for call, *before in (volume.seek,), (volume.pread, 1), (volume.pread_into, bytearray(1)):
+            pytest.raises(TypeError, call, *before, wrong)
     assert volume.seek(True) == 1 and volume.read(2) == text(VOLUME2)[1:3]
 
 
@@ -134,17 +121,15 @@ def test_buffers(volume, text):
     """Any writable buffer is filled; one of several dimensions or items as bytes."""
     numbers = (ctypes.c_uint32 * 1000)()
     assert volume.pread_into(numbers, 3) == 4000 and bytes(numbers) == text(VOLUME2)[3:4003]
-    with pytest.raises(TypeError):
-        volume.readinto(b"read-only")
+    pytest.raises(TypeError, volume.readinto, b"read-only")
     assert volume.tell() == 0
 
 
 def test_read_only(volume):
     assert volume.readable() and volume.seekable()
     assert not volume.writable() and not volume.isatty()
-    for change in (lambda: volume.write(b"x"), lambda: volume.truncate(5), volume.fileno):
-        with pytest.raises(io.UnsupportedOperation):
-            change()
+    for change, *arguments in (volume.write, b"x"), (volume.truncate, 5), (volume.fileno,):
+        pytest.raises(io.UnsupportedOperation, change, *arguments)
     assert isinstance(volume, io.RawIOBase) and volume.mode == "rb"
 
 
@@ -225,13 +210,16 @@ def test_refused(image, options, code, status, message):
         assert str(error) == message
 
 
-def each_error(table):
-    """Rows of options and the error that they lead to."""
-    return pytest.mark.parametrize("options, error", [
-        (options, error) for error, rows in table.items() for options in rows], ids=str)
+def by_key(image=VOLUME2, key=VOLUME2, **options):
+    """The volume in this image, by the volume key of this one."""
+    return luksrd.open_by_volume_key(image, **volume_key_options(key, options))
 
 
-@each_error({
+def by_key_file(**options):
+    return luksrd.open(VOLUME1, **{"key_file": "pass"} | options)
+
+
+WRONG = {by_key_file: {
     TypeError: [{"key_file": None}, {"passphrase": "a passphrase"}, {"key_file": 0}, {"header": 0},
                 {"key_file": None, "passphrase": 5}, {"argon2_memory": 1e9}, {"argon2_fill": "1G"},
                 *({"argon2": word} for word in ("no", "False", "", None, 0, 1))],
@@ -240,11 +228,25 @@ def each_error(table):
                  *({"argon2_memory": size} for size in (0, -1, 1023, 2 ** 42)),
                  *({"argon2_fill": size} for size in (0, -1, 2 ** 20 - 1, 2 ** 52))],
     FileNotFoundError: [{"key_file": "absent"}, {"header": "absent"}],
-    IsADirectoryError: [{"key_file": "."}, {"header": "."}]})
-def test_wrong_arguments(options, error):
+    IsADirectoryError: [{"key_file": "."}, {"header": "."}],
+}, by_key: {
+    TypeError: [{"volume_key": b"k" * 64}, {"volume_key_file": None}, {"payload_offset": 1.5},
+                {"iv_offset": "1"}, {"volume_key_file": None, "volume_key": "k" * 64}],
+    ValueError: [{"cipher": "aes-ecb"}, {"cipher": "aes-cbc-plain64"}, {"sector_size": 513},
+                 {"payload_offset": -1}, {"payload_offset": 2 ** 64}, {"iv_offset": -1},
+                 {"iv_offset": 2 ** 64}, {"size": -4096}, {"size": 2 ** 64}, {"size": 512},
+                 {"max_iterations": 0}, {"volume_key_file": None, "volume_key": b""},
+                 {"volume_key_file": None, "volume_key": b"k" * 65}, {"volume_key_file": "plain"}],
+    FileNotFoundError: [{"volume_key_file": "absent"}],
+}}
+
+
+@pytest.mark.parametrize("opens, options, error", [
+    (opens, options, error) for opens, table in WRONG.items() for error, rows in table.items()
+    for options in rows], ids=lambda value: getattr(value, "__name__", str(value)))
+def test_wrong_arguments(opens, options, error):
     before = descriptors()
-    with pytest.raises(error):
-        luksrd.open(VOLUME1, **{"key_file": "pass"} | options)
+    pytest.raises(error, opens, **options)
     assert descriptors() == before
 
 
@@ -259,23 +261,16 @@ def test_wrong_image(image, error):
     if caught.value.errno == errno.EINVAL:
         assert "neither a regular file nor a block device" in str(caught.value)
     assert descriptors() == before
-    with pytest.raises(TypeError):
-        luksrd.open(0, passphrase="a passphrase")
+    pytest.raises(TypeError, luksrd.open, 0, passphrase="a passphrase")
 
 
 # ---- volume keys
-
-def by_key(image, key=VOLUME2, **options):
-    """The volume in this image, by the volume key of this one."""
-    return luksrd.open_by_volume_key(image, **volume_key_options(key, options))
-
 
 @pytest.mark.parametrize("of, image, options, first, end, message", BY_VOLUME_KEY, ids=str)
 def test_volume_key(of, image, options, first, end, message, text):
     """A volume key opens its volume, whether or not the header is there; one that cannot tell is
     warned of, and an image that ends too early."""
-    with warnings.catch_warnings(record=True) as caught:
-        warnings.simplefilter("always")
+    with warnings.catch_warnings(record=True, action="always") as caught:
         volume = by_key(image, of, **options)
     kind = luksrd.IncompleteImageWarning if " ends " in message else luksrd.UncheckedKeyWarning
     assert [warning.category for warning in caught] == ([kind] if message else [])
@@ -307,22 +302,6 @@ def test_another_volume_key(changed, text):
     with by_key(f"{VOLUME2}.lost", volume_key_file=None, volume_key=other) as volume:
         assert volume.key_slot is None
         assert volume.size == len(text(VOLUME2)) and volume.read() != text(VOLUME2)
-
-
-@each_error({
-    TypeError: [{"volume_key": b"k" * 64}, {"volume_key_file": None}, {"payload_offset": 1.5},
-                {"iv_offset": "1"}, {"volume_key_file": None, "volume_key": "k" * 64}],
-    ValueError: [{"cipher": "aes-ecb"}, {"cipher": "aes-cbc-plain64"}, {"sector_size": 513},
-                 {"payload_offset": -1}, {"payload_offset": 2 ** 64}, {"iv_offset": -1},
-                 {"iv_offset": 2 ** 64}, {"size": -4096}, {"size": 2 ** 64}, {"size": 512},
-                 {"max_iterations": 0}, {"volume_key_file": None, "volume_key": b""},
-                 {"volume_key_file": None, "volume_key": b"k" * 65}, {"volume_key_file": "plain"}],
-    FileNotFoundError: [{"volume_key_file": "absent"}]})
-def test_wrong_volume_key_arguments(options, error):
-    before = descriptors()
-    with pytest.raises(error):
-        by_key(VOLUME2, **options)
-    assert descriptors() == before
 
 
 def test_huge_secrets():
@@ -357,8 +336,7 @@ def test_close():
     for use in (volume.read, volume.tell, volume.readable, volume.seekable, lambda: volume.seek(0),
                 lambda: volume.pread(1, 0), lambda: volume.readinto(bytearray(1)),
                 volume.__enter__):
-        with pytest.raises(ValueError):
-            use()
+        pytest.raises(ValueError, use)
 
 
 class Left:
@@ -406,8 +384,7 @@ def left(monkeypatch):
     (lambda: by_key(VOLUME2, size=2 ** 40), luksrd.IncompleteImageWarning)])
 def test_warnings_as_errors(left, use, warning):
     """Nothing is left, though the error itself is kept."""
-    with warnings.catch_warnings(), left:
-        warnings.simplefilter("error")
+    with warnings.catch_warnings(action="error"), left:
         if warning is None:
             use().close()
         else:
@@ -416,13 +393,8 @@ def test_warnings_as_errors(left, use, warning):
     assert warning is None or caught.value is not None
 
 
-@pytest.mark.parametrize("is_done", [False, True])
-@pytest.mark.parametrize("owner, name, turn", [
-    (luksrd, "_library", 2), (luksrd, "_library", 3), (luksrd, "_library", 4),
-    (luksrd, "_read_header", 1), (luksrd._Key, "unlock", 1), (luksrd._Key, "_prepare", 1),
-    (luksrd._Key, "plain_len", 1), (luksrd._Key, "ending", 1), (warnings, "warn", 1)])
-def test_open_interrupted(left, monkeypatch, owner, name, turn, is_done):
-    """Nothing is left if opening is interrupted before or after one of these calls."""
+def interrupt(monkeypatch, owner, name, turn=1, is_done=False):
+    """This call is interrupted once, before or after it is done; gives a list of its calls."""
     call, calls = getattr(owner, name), []
 
     def interrupted(*arguments, **named):
@@ -434,29 +406,29 @@ def test_open_interrupted(left, monkeypatch, owner, name, turn, is_done):
             raise KeyboardInterrupt
         return answer
 
+    monkeypatch.setattr(owner, name, interrupted)
+    return calls
+
+
+@pytest.mark.parametrize("is_done", [False, True])
+@pytest.mark.parametrize("owner, name, turn", [
+    (luksrd, "_library", 2), (luksrd, "_library", 3), (luksrd, "_library", 4),
+    (luksrd, "_read_header", 1), (luksrd._Key, "unlock", 1), (luksrd._Key, "_prepare", 1),
+    (luksrd._Key, "plain_len", 1), (luksrd._Key, "ending", 1), (warnings, "warn", 1)])
+def test_open_interrupted(left, monkeypatch, owner, name, turn, is_done):
+    """Nothing is left if opening is interrupted before or after one of these calls."""
     with left:
         # one that is opened, so that there is a secret
         luksrd.open(VOLUME1, key_file="pass").close()
-        monkeypatch.setattr(owner, name, interrupted)
-        with pytest.raises(KeyboardInterrupt), warnings.catch_warnings():
-            warnings.simplefilter("always")
+        calls = interrupt(monkeypatch, owner, name, turn, is_done)
+        with pytest.raises(KeyboardInterrupt), warnings.catch_warnings(action="always"):
             luksrd.open("truncated inside a sector", key_file="pass")
         assert len(calls) >= turn
 
 
 def test_reading_a_secret_fails(left, monkeypatch):
     """What was read before is wiped."""
-    readv, reads = os.readv, []
-
-    def failing(descriptor, buffers):
-        if not os.readlink(f"/proc/self/fd/{descriptor}").endswith("/pass"):
-            return readv(descriptor, buffers)
-        reads.append(descriptor)
-        if len(reads) > 1:
-            raise OSError(errno.EIO, "a part of the disk is gone")
-        return readv(descriptor, [buffers[0][:5]])
-
-    monkeypatch.setattr(os, "readv", failing)
+    fails_from(monkeypatch, "pass", 5)
     with left, pytest.raises(OSError, match="a part of the disk is gone"):
         luksrd.open(VOLUME1, key_file="pass")
     assert [len(buffer) for _, buffer in left.secrets] == [8388609]
@@ -465,23 +437,14 @@ def test_reading_a_secret_fails(left, monkeypatch):
 @pytest.mark.parametrize("image", [VOLUME1, VOLUME2])
 def test_bytes_after_the_header_cannot_be_read(image, text, monkeypatch):
     """The volume is opened all the same, unless the header is not whole."""
-    readv, ends = os.readv, [os.stat(image).st_size - 4096]
-
-    def failing(descriptor, buffers):
-        if os.readlink(f"/proc/self/fd/{descriptor}").endswith("/pass"):
-            return readv(descriptor, buffers)
-        there = ends[-1] - os.lseek(descriptor, 0, os.SEEK_CUR)
-        if there <= 0:
-            raise OSError(errno.EIO, "a part of the disk is gone")
-        return readv(descriptor, [buffers[0][:there]])
-
-    monkeypatch.setattr(os, "readv", failing)
-    with pytest.warns(luksrd.IncompleteImageWarning, match=f"ended after {ends[0]} bytes"):
+    end = os.stat(image).st_size - 4096
+    fails_from(monkeypatch, image, end)
+    with pytest.warns(luksrd.IncompleteImageWarning, match=f"ended after {end} bytes"):
         volume = luksrd.open(image, key_file="pass")
     with volume:
         assert volume.pread(1000, 5000) == text(image)[5000:6000]
-    for end in 0, 500:
-        ends.append(end)
+    for end in 500, 0:
+        fails_from(monkeypatch, image, end)
         with pytest.raises(OSError, match="a part of the disk is gone"):
             luksrd.open(image, key_file="pass")
 
@@ -510,19 +473,6 @@ def test_close_in_a_child_of_a_fork(volume):
     assert os.waitpid(child, 0)[1] == 0
 
 
-def interrupts(call):
-    """The call, which is interrupted the first time, before it does anything."""
-    calls = []
-
-    def interrupted(*arguments):
-        calls.append(arguments)
-        if len(calls) == 1:
-            raise KeyboardInterrupt
-        return call(*arguments)
-
-    return interrupted
-
-
 @pytest.mark.parametrize("ending", ["close", "forget"])
 @pytest.mark.parametrize("step", ["wait", "wipe", "closing", "marking"])
 def test_close_interrupted(left, monkeypatch, step, ending):
@@ -536,14 +486,12 @@ def test_close_interrupted(left, monkeypatch, step, ending):
                 threads.submit(reading.enter_context, volume._reading()).result()
         owner, name = {"wait": (volume._idle, "wait"), "wipe": (volume._key, "wipe"),
                        "closing": (volume, "_release"), "marking": (volume, "flush")}[step]
-        monkeypatch.setattr(owner, name, interrupts(getattr(owner, name)))
-        with pytest.raises(KeyboardInterrupt):
-            volume.close()
+        interrupt(monkeypatch, owner, name)
+        pytest.raises(KeyboardInterrupt, volume.close)
         # Python itself takes it for closed once nothing is left to do
         assert volume.closed == (step == "marking")
         for use in (volume.read, volume.tell, lambda: volume.pread(1, 0)):
-            with pytest.raises(ValueError):
-                use()
+            pytest.raises(ValueError, use)
         if step == "wait":
             # the read that ends last does what close() could not
             assert any(key_of(volume)) and not volume._file.closed
@@ -566,8 +514,7 @@ def test_close_by_a_handler(left, monkeypatch, read, text):
 
         def interrupted(*arguments):
             volume.close()
-            with pytest.raises(ValueError):
-                volume.seek(0)
+            pytest.raises(ValueError, volume.seek, 0)
             read_exactly(*arguments)
 
         volume.seek(300)

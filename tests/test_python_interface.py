@@ -12,16 +12,13 @@ import sys
 import warnings
 import zipfile
 
+import luksrd
 import pytest
 import volumes
-from support import TOP, expect, must, needs, run, wait_until
-
-sys.path.insert(0, str(TOP / "python"))
-sys.dont_write_bytecode = True
-import luksrd  # noqa: E402
+from kinds import CUT, NO_LUKS
+from support import TOP, expect, fails_from, must, run, wait_until
 
 MODULE = TOP / "python/luksrd.py"
-NO_LUKS = "luksrd: not a LUKS image"
 # whole sectors of 512 bytes, whose end has lines of all lengths
 LINES = b"".join(bytes([65 + number % 26]) * number + b"\n" for number in range(400))
 TEXT = random.Random("text").randbytes(300032 - len(LINES)) + LINES
@@ -161,27 +158,19 @@ def test_head_that_is_too_short(volume):
     content = volume.read_bytes()
     with pytest.raises(luksrd.LuksError) as caught:
         by_passphrase(volume, head=content[:20000])
-    assert (caught.value.code, str(caught.value)) == (2, "luksrd: image ends inside the header or a key area")
-    with pytest.raises(luksrd.NotLuksError):
-        by_passphrase(volume, head=b"")
+    assert (caught.value.code, str(caught.value)) == (2, CUT)
+    pytest.raises(luksrd.NotLuksError, by_passphrase, volume, head=b"")
 
 
-@needs("cryptsetup")
-def test_head_that_ends_in_an_area_of_argon2(loaded, made2, tmp_path):
+def test_head_that_ends_in_an_area_of_argon2(loaded, kinds):
     """The key areas of all slots that are tried are needed, also if an earlier slot opens."""
-    image = volumes.copy_of(made2("aes-xts-plain64", 512, plain=TEXT), tmp_path / "image")
-    volumes.cryptsetup("luksConvertKey --key-slot 1 --pbkdf argon2id --pbkdf-memory 32 --pbkdf-parallel 1 "
-                       "--pbkdf-force-iterations 4 --key-file -", image, stdin=volumes.PASS2)
-    slots = volumes.metadata(image)[0]["keyslots"]
-    areas = [int(slots[number]["area"]["offset"]) for number in "01"]
-    assert areas[0] < areas[1] and [slots[number]["kdf"]["type"] for number in "01"] == ["pbkdf2", "argon2id"]
-    head = image.read_bytes()[:areas[1] + 512]
+    head = kinds.head_of_argon2()
     with pytest.raises(luksrd.LuksError) as caught:
-        luksrd.open(image, passphrase=volumes.PASS, head=head)
-    assert (caught.value.code, str(caught.value)) == (2, "luksrd: image ends inside the header or a key area")
+        by_passphrase(kinds / "argon2", head=head)
+    assert (caught.value.code, str(caught.value)) == (2, CUT)
     for options in {"argon2": False}, {"key_slot": 0}, {"argon2_memory": 31 << 10}:
-        with luksrd.open(image, passphrase=volumes.PASS, head=head, **options) as opened:
-            assert (opened.key_slot, opened.pread(len(TEXT), 0)) == (0, TEXT)
+        with by_passphrase(kinds / "argon2", head=head, **options) as opened:
+            assert (opened.key_slot, opened.read()) == (0, kinds.text("argon2"))
 
 
 def test_volume_in_a_volume(volume, tmp_path, made1):
@@ -310,26 +299,16 @@ def test_warnings_point_to_the_caller(volume, by_key, tmp_path, monkeypatch, is_
     image, header = tmp_path / "image", tmp_path / "header"
     image.write_bytes(content[-len(TEXT):-1] if is_detached else content[:-1])
     header.write_bytes(content[:-len(TEXT)])
-    read = os.readv
-
-    def readv(descriptor, buffers):
-        name, at = os.readlink(f"/proc/self/fd/{descriptor}"), os.lseek(descriptor, 0, os.SEEK_CUR)
-        there = os.stat(name).st_size - at
-        if there <= 4096 and name == str(header if is_detached else image):
-            raise OSError(5, "a part of the disk is gone")
-        return read(descriptor, [buffers[0][:max(1, there - 4096)]])
-
-    monkeypatch.setattr(os, "readv", readv)
+    partly = header if is_detached else image
+    fails_from(monkeypatch, partly, partly.stat().st_size - 4096)
     how = {"header": header} if is_detached else {}
-    with warnings.catch_warnings(record=True) as seen:
-        warnings.simplefilter("always")
+    with warnings.catch_warnings(record=True, action="always") as seen:
         by_passphrase_line = sys._getframe().f_lineno + 1
         luksrd.open(image, passphrase=volumes.PASS, **how).close()
     assert [(warning.filename, warning.lineno) for warning in seen] == [(__file__, by_passphrase_line)] * 2
     assert re.match("reading the header ended after .*: .*a part of the disk is gone", str(seen[0].message))
     monkeypatch.undo()
-    with warnings.catch_warnings(record=True) as seen:
-        warnings.simplefilter("always")
+    with warnings.catch_warnings(record=True, action="always") as seen:
         luksrd.open_by_volume_key(volume, payload_offset=0, volume_key=bytes(64), header=TOP / "Makefile").close()
     assert lines_of(seen)[0] == (luksrd.UncheckedKeyWarning, __file__)
 
