@@ -35,19 +35,21 @@ class Server:
 
 
 class Way:
-    """A way to serve volumes; paths are below the folder of volumes of all kinds."""
+    """A way to serve volumes, with a command before nbdkit; paths are below the folder of volumes of all kinds."""
 
-    def __init__(self, name, arguments, start, kinds, tmp_path):
+    def __init__(self, name, arguments, start, kinds, tmp_path, before=()):
         self.name, self.arguments, self.start, self.kinds = name, arguments, start, kinds
-        self.folder, self.how, self.served = tmp_path, {"cwd": kinds.folder}, 0
+        self.folder, self.how, self.served, self.before = tmp_path, {"cwd": kinds.folder}, 0, before
 
     def named(self, image):
         """How a message on the image of this name begins. The filter does not know the name."""
         return "" if self.name == "filter" else f"{image}: "
 
     def run(self, command, *arguments, before=(), **how):
-        """Runs a command of the shell while the volume is served; messages are in its output."""
-        words = [*before, "nbdkit", "-U", "-", *self.arguments, *arguments, "--run", command]
+        """Runs a command of the shell while the volume is served; messages are in its output. What is loaded before
+        nbdkit's own libraries is not for that command."""
+        words = [*self.before, *before, "nbdkit", "-U", "-", *self.arguments, *arguments, "--run",
+                 f"unset LD_PRELOAD; {command}"]
         return run(*words, stderr=subprocess.STDOUT, **(self.how | how))
 
     def refuses(self, message, *arguments, **how):
@@ -60,7 +62,7 @@ class Way:
         self.served += 1
         pid, socket, said = (self.folder / f"{name}{self.served}" for name in ("pid", "socket", "said"))
         with open(said, "wb") as file:
-            process = self.start(*before, "nbdkit", "-f", "-U", socket, "-P", pid, *self.arguments,
+            process = self.start(*self.before, *before, "nbdkit", "-f", "-U", socket, "-P", pid, *self.arguments,
                                  *arguments, until=lambda: pid.exists() and pid.read_text(),
                                  **({"stdout": file, "stderr": file} | self.how | how))
         return Server(process, f"nbd+unix:///?socket={socket}", said)

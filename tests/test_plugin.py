@@ -13,11 +13,11 @@ import threading
 import time
 
 import pytest
-from kinds import (BY_VOLUME_KEY, KINDS, NO_KEY, NO_LUKS, REFUSED, START, VOLUME1, VOLUME2,
+from kinds import (BY_VOLUME_KEY, NO_KEY, NO_LUKS, REFUSED, START, VOLUME1, VOLUME2,
                    each_kind, volume_key_options)
 from serving import (SIZE, Way, by_filter, by_kind, by_plugin, connected, in_threads,  # noqa: F401
                      needs_nbdkit, read, reads_ranges, reads_shorter, way)
-from support import TOP, alone, expect, must, needs, run, wait_until
+from support import TOP, alone, expect, limited, memory_of, must, needs, run, wait_until
 from volumes import copy_of, cryptsetup, overwrite, with_checksum
 
 pytestmark = needs_nbdkit
@@ -61,15 +61,12 @@ def test_kinds(way, kind, each_library, tmp_path):
     reads_ranges(server.uri, text, 40)
 
 
-@pytest.mark.parametrize("image", [VOLUME1, "luks2 xts-plain64 512 512", VOLUME2,
-                                   "luks2 xts-plain64 256 1024", "luks2 xts-plain64 512 2048"])
-def test_many_ranges(way, image):
-    reads_ranges(way.serve(image, PASS).uri, way.kinds.text(image), 2000)
-
-
-def test_one_sector_at_once(way):
-    server = way.serve(VOLUME2, PASS, "--filter=blocksize", "minblock=4096", "maxdata=4096")
-    reads_ranges(server.uri, way.kinds.text(VOLUME2), 2001)
+@pytest.mark.parametrize("image, blocks", [
+    *((image, []) for image in (VOLUME1, "luks2 xts-plain64 512 512", VOLUME2,
+                                "luks2 xts-plain64 256 1024", "luks2 xts-plain64 512 2048")),
+    (VOLUME2, ["--filter=blocksize", "minblock=4096", "maxdata=4096"])], ids=str)
+def test_many_ranges(way, image, blocks):
+    reads_ranges(way.serve(image, PASS, *blocks).uri, way.kinds.text(image), 2000)
 
 
 def test_announced(way):
@@ -137,17 +134,15 @@ def test_argon2(way, of_one_mib, parameters, reason):
         way.gives(way.kinds.text(VOLUME2), of_one_mib, "key-file=pass2", *parameters)
 
 
-@pytest.mark.parametrize("form", ["key-file={}", "key-file=/dev/stdin", "passphrase=-{}"])
-def test_passphrase_from_a_pipe(way, piped, form):
-    name, how = piped(way.kinds / "pass")
-    source = name if form == "key-file={}" else how["stdin"]
-    way.gives_kind(VOLUME1, VOLUME1, form.format(source), **how)
-
-
-@pytest.mark.parametrize("image", ["detached1", "detached2"])
-def test_header_from_a_pipe(way, piped, image):
-    name, how = piped(way.kinds / KINDS[image].header)
-    way.gives_kind(image, image, f"header={name}", PASS, **how)
+@pytest.mark.parametrize("image, file, parameters", [
+    (VOLUME1, "pass", ["key-file={name}"]), (VOLUME1, "pass", ["key-file=/dev/stdin"]),
+    (VOLUME1, "pass", ["passphrase=-{number}"]),
+    ("detached1", "header1", ["header={name}", PASS]), ("detached2", "header2", ["header={name}", PASS]),
+    (f"{VOLUME1}.lost", f"{VOLUME1}.key", ["volume-key-file={name}", AT])], ids=str)
+def test_from_a_pipe(way, piped, image, file, parameters):
+    name, how = piped(way.kinds / file)
+    given = [parameter.format(name=name, number=how["stdin"]) for parameter in parameters]
+    way.gives_kind(image.removesuffix(".lost"), image, *given, **how)
 
 
 def typed(answer):
@@ -181,11 +176,6 @@ def test_volume_key(way, of, image, options, first, end, message):
     assert message in said and (message or said == "")
     if message and " ends " not in message:
         assert f"{of}.key: the volume key is not compared with a header" in said
-
-
-def test_volume_key_from_a_pipe(way, piped):
-    name, how = piped(way.kinds / f"{VOLUME1}.key")
-    way.gives_kind(VOLUME1, f"{VOLUME1}.lost", f"volume-key-file={name}", AT, **how)
 
 
 @pytest.mark.parametrize("size, message, parameters", [
@@ -241,29 +231,22 @@ WRONG_PARAMETERS = [
         "volume-key-file=pass", "payload-offset=512", "cipher=aes-xts-plain64", "sector-size=512",
         "iv-offset=0")),
 ]
-NO_NUMBERS = {
-    ("key-slot", "0 to 31", PASS): "|32|-1|+1| 1|1x|0x1|00000000001|4294967296",
-    ("max-iterations", "1 to 4294967295", PASS): "|0|-1|1x|4294967296|00000000001",
-    ("payload-offset", "0 to 9223372036854775807", KEY1):
-        "|1M|-1|+1| 1|1x|0x1|9223372036854775808|18446744073709551617|00000000000000000001",
-    ("size", "0 to 9223372036854775807", KEY1):
-        "|1M|-1|+1| 1|1x|0x1|9223372036854775808|18446744073709551617|00000000000000000001",
-    ("iv-offset", "0 to 18446744073709551615", KEY1):
-        "|1M|-1|18446744073709551616|99999999999999999999|000000000000000000001",
-    ("sector-size", "512 to 4096", KEY1): "|511|4097|1k",
-}
-WRONG_PARAMETERS += [(f"{name}={number}: not a number from {numbers}", VOLUME1, by, f"{name}={number}")
-            for (name, numbers, by), wrong in NO_NUMBERS.items() for number in wrong.split("|")]
-NO_SIZES = {
-    ("argon2-memory", "1024 to 4398046510080"): "|0|1023|-1K|1Q|many|4T|16E",
-    ("argon2-fill", "1048576 to 4503599626321920"):
-        "|0|1023K|1048575|-1|1.5G|4P|99999999999999999999",
-}
-WRONG_PARAMETERS += [
-    *((f"{name}={size}: not a size from {sizes} bytes", VOLUME1, PASS, f"{name}={size}")
-      for (name, sizes), wrong in NO_SIZES.items() for size in wrong.split("|")),
-    *((f"argon2={word}: neither yes nor no", VOLUME1, PASS, f"argon2={word}")
-      for word in ("", "2", "never"))]
+NO_PLACE = "|1M|-1|+1| 1|1x|0x1|9223372036854775808|18446744073709551617|00000000000000000001"
+# values of a parameter, what is said of each, and what goes with it
+WRONG_VALUES = [
+    ("key-slot", "|32|-1|+1| 1|1x|0x1|00000000001|4294967296", "not a number from 0 to 31", PASS),
+    ("max-iterations", "|0|-1|1x|4294967296|00000000001", "not a number from 1 to 4294967295", PASS),
+    ("payload-offset", NO_PLACE, "not a number from 0 to 9223372036854775807", KEY1),
+    ("size", NO_PLACE, "not a number from 0 to 9223372036854775807", KEY1),
+    ("iv-offset", "|1M|-1|18446744073709551616|99999999999999999999|000000000000000000001",
+     "not a number from 0 to 18446744073709551615", KEY1),
+    ("sector-size", "|511|4097|1k", "not a number from 512 to 4096", KEY1),
+    ("argon2-memory", "|0|1023|-1K|1Q|many|4T|16E", "not a size from 1024 to 4398046510080 bytes", PASS),
+    ("argon2-fill", "|0|1023K|1048575|-1|1.5G|4P|99999999999999999999",
+     "not a size from 1048576 to 4503599626321920 bytes", PASS),
+    ("argon2", "|2|never", "neither yes nor no", PASS)]
+WRONG_PARAMETERS += [(f"{name}={value}: {said}", VOLUME1, by, f"{name}={value}")
+                     for name, values, said, by in WRONG_VALUES for value in values.split("|")]
 
 
 @pytest.mark.parametrize("row", WRONG_PARAMETERS, ids=lambda row: " ".join(row[1:]))
@@ -284,9 +267,8 @@ def test_refused(way, image, options, code, status, message):
 @pytest.mark.parametrize("message, parameters", [
     (ABSENT, ["absent", PASS]),
     (IS_FOLDER, [".", PASS]),
-    ("luksrd: cannot open pipe: neither a regular file nor a block device", ["pipe", PASS]),
-    ("luksrd: cannot open /dev/null: neither a regular file nor a block device",
-     ["/dev/null", PASS]),
+    *((f"luksrd: cannot open {image}: neither a regular file nor a block device", [image, PASS])
+      for image in ("pipe", "/dev/null")),
     ("file=IMAGE is needed", [PASS]),
     ("file= is given twice", [VOLUME1, "file=plain", PASS]),
     ("unknown parameter 'keyfile'", [VOLUME1, "keyfile=pass"]),
@@ -327,13 +309,6 @@ def test_shrinks(by_plugin, tmp_path):
     assert ": the image has become shorter" in server.said()
 
 
-def test_shorter(way, tmp_path):
-    image = copy_of(way.kinds / VOLUME1, tmp_path / "image")
-    server = way.serve(image, PASS)
-    reads_shorter(server.uri, way.kinds.text(VOLUME1), image)
-    assert ": reading " in server.said()
-
-
 @needs("strace")
 @pytest.mark.parametrize("call, status, after", [(1, 1, 0), (2, 0, START + 300032)])
 def test_a_read_fails(by_plugin, tmp_path, call, status, after):
@@ -349,22 +324,17 @@ def test_a_read_fails(by_plugin, tmp_path, call, status, after):
 
 # ---- little stack, signals and no threads
 
-def with_stack(kib):
-    """The command before one that gets so much stack."""
-    return ["bash", "-c", f'ulimit -s {kib}; exec "$@"', "bash"]
-
-
 @pytest.mark.parametrize("kib", [128, 256])
 @pytest.mark.parametrize("secret", [[PASS], ["passphrase=+pass"], [KEY1, AT]], ids=str)
 def test_little_stack(way, secret, kib):
     """A volume opens where nbdkit's file plugin runs, which needs less stack than the library."""
-    little = with_stack(kib)
+    little = limited("-s", kib)
     expect(run(*little, "nbdkit", "-U", "-", "file", VOLUME1, "--run", "true", cwd=way.kinds.folder))
     way.gives_kind(VOLUME1, VOLUME1, *secret, before=little)
 
 
 def test_little_stack_and_a_wrong_passphrase(way):
-    way.refuses(NO_KEY, VOLUME1, WRONG, before=with_stack(256))
+    way.refuses(NO_KEY, VOLUME1, WRONG, before=limited("-s", 256))
 
 
 @needs("strace")
@@ -463,18 +433,9 @@ def found(secret, process):
     with open(f"/proc/{process}/stat", "rb") as stat:
         # fields 48 and 49; the second is a name in brackets
         first, end = map(int, stat.read().rsplit(b")", 1)[1].split()[45:47])
-    places = set()
-    with open(f"/proc/{process}/maps") as maps, open(f"/proc/{process}/mem", "rb", 0) as memory:
-        for line in maps:
-            addresses, rights, *_ = line.split()
-            if not rights.startswith("rw"):
-                continue
-            start, stop = (int(digits, 16) for digits in addresses.split("-"))
-            memory.seek(start)
-            content = memory.read(stop - start)
-            for piece in map(re.escape, pieces):
-                places |= {first <= start + match.start() < end
-                           for match in re.finditer(piece, content)}
+    places = {first <= start + match.start() < end
+              for start, content in memory_of(process, "rw") for piece in map(re.escape, pieces)
+              for match in re.finditer(piece, content)}
     return "everywhere" if False in places else "arguments" if places else "nowhere"
 
 
@@ -566,12 +527,17 @@ SUPPRESSED = """
 }
 """
 SANITIZED = "-O1 -g -fsanitize=address,undefined -fno-sanitize-recover=all"
+CHECKERS = [pytest.param(name, marks=needs("valgrind", "gcc", "make", "pkg-config"))
+            for name in ("valgrind", "AddressSanitizer")]
 
 
-@pytest.fixture(params=["valgrind", "AddressSanitizer"])
+@pytest.fixture(params=CHECKERS)
 def checked(request, way, library, tmp_path):
     """A way whose C is built again, and runs under valgrind or with AddressSanitizer, which find
     nothing."""
+    if request.param == "as built":
+        yield way
+        return
     flags = "-O1 -g" if request.param == "valgrind" else SANITIZED
     built = [tmp_path / "plugin.so", tmp_path / "filter.so"]
     shutil.copy(library, tmp_path / "libluksrd.so.2")
@@ -585,7 +551,7 @@ def checked(request, way, library, tmp_path):
     else:
         before = sanitized_by(tmp_path)
     arguments = built[:1] if way.name == "plugin" else [f"--filter={built[1]}", "file"]
-    yield CheckedWay(before, way.name, arguments, way.start, way.kinds, tmp_path)
+    yield Way(way.name, arguments, way.start, way.kinds, tmp_path, before)
     reports = [path.read_text() for path in tmp_path.glob("log.*")]
     assert not "".join(reports)
 
@@ -602,22 +568,6 @@ def sanitized_by(folder):
             f"LD_PRELOAD={' '.join(libraries)} {folder}/left.so"]
 
 
-class CheckedWay(Way):
-    def __init__(self, before, *arguments):
-        super().__init__(*arguments)
-        self.before = before
-
-    def run(self, command, *arguments, **how):
-        return super().run(f"unset LD_PRELOAD; {command}", *arguments, before=self.before, **how)
-
-    def serve(self, *arguments, **how):
-        return super().serve(*arguments, before=self.before, **how)
-
-
-needs_checkers = needs("valgrind", "gcc", "make", "pkg-config")
-
-
-@needs_checkers
 @pytest.mark.parametrize("image", [VOLUME1, VOLUME2])
 def test_checked_ranges(checked, image):
     server = checked.serve(image, PASS)
@@ -625,15 +575,14 @@ def test_checked_ranges(checked, image):
     server.stop()
 
 
-@needs_checkers
-def test_checked_shorter(checked, tmp_path):
+@pytest.mark.parametrize("checked", ["as built", *CHECKERS], indirect=True)
+def test_shorter(checked, tmp_path):
     image = copy_of(checked.kinds / VOLUME1, tmp_path / "image")
     server = checked.serve(image, PASS)
     reads_shorter(server.uri, checked.kinds.text(VOLUME1), image)
-    server.stop()
+    assert ": reading " in server.stop()
 
 
-@needs_checkers
 def test_checked_openings(checked):
     text = checked.kinds.text(VOLUME2)
     for wanted, parameters in [
@@ -648,7 +597,6 @@ def test_checked_openings(checked):
     assert (ended.status, ended.output.decode()) == (0, f"{len(text)}\n" * 2)
 
 
-@needs_checkers
 @pytest.mark.parametrize("message, parameters", [
     (NO_KEY, [VOLUME1, WRONG]), (LONG_KEY_FILE, [VOLUME1, "key-file=long"]),
     (NO_KEY, [VOLUME1, "passphrase=+wrong"]), (ABSENT, [VOLUME1, "key-file=absent"]),
@@ -683,8 +631,7 @@ def damaged_headers(path):
         yield bytes(header)
 
 
-@needs_checkers
-@pytest.mark.parametrize("checked", ["AddressSanitizer"], indirect=True)
+@pytest.mark.parametrize("checked", CHECKERS[1:], indirect=True)
 @pytest.mark.parametrize("version", [1, 2])
 def test_damaged_headers(checked, luksrd, version, tmp_path):
     """Both refuse what luksCat refuses, by the same message, and serve what it writes."""
