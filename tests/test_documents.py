@@ -6,13 +6,15 @@ run by tests/test_rescue_laptops.py and tests/test_audit.py."""
 
 import os
 import re
+import subprocess
 import typing
 
 import pytest
 import volumes
+from disks import lvm_over
 from documents import SHELLS, Cook, document, not_run, programs, web_server
 from support import (NO_KEY, TOP, alone, expect, must, namespace, needs, run, wait_until)
-from volumes import PASS, copy_of, cryptsetup
+from volumes import PASS, copy_of, cryptsetup, empty_file
 
 MIB = 1 << 20
 FSTAB = b"/dev/sda1 / ext4 defaults 0 1\n"
@@ -36,8 +38,7 @@ def file_system(path, kind):
     if kind == "inside":
         (folder / "files/inside").write_text("inside\n")
     (folder / "prototype").write_text(PROTOTYPE)
-    path.touch()
-    os.truncate(path, {"xfs": 16, "ntfs": 16, "btrfs": 32}.get(kind, 8) * MIB)
+    empty_file(path, {"xfs": 16, "ntfs": 16, "btrfs": 32}.get(kind, 8) * MIB)
     make = {"xfs": ["mkfs.xfs", "-q", "--unsupported", "-p", "prototype"],
             "btrfs": ["mkfs.btrfs", "-q", "--mixed", "--rootdir", "files"],
             "ntfs": ["mkntfs", "-q", "-F"]}
@@ -73,10 +74,13 @@ def luks2(path, source):
     volumes.luks2(path, source.read_bytes(), "aes-xts-plain64", 512)
 
 
-def one_slot(path, source):
-    """LUKS2 with key slot 0 alone."""
-    luks2(path, source)
-    cryptsetup("luksKillSlot --key-file pass", path, "1", cwd=path.parent)
+def one_slot(volume, killed):
+    """A volume with key slot 0 alone."""
+    def make(path, source):
+        volume(path, source)
+        cryptsetup("luksKillSlot --key-file pass", path, killed, cwd=path.parent)
+
+    return make
 
 
 def encrypted(path, source, options, more=8 * MIB):
@@ -84,12 +88,6 @@ def encrypted(path, source, options, more=8 * MIB):
     path.write_bytes(source.read_bytes() + bytes(more))
     cryptsetup(f"reencrypt --encrypt --type luks2 --reduce-device-size {more} --key-file pass "
                f"--force-offline-reencrypt {options}", path, cwd=path.parent)
-
-
-def one_slot1(path, source):
-    """LUKS1 with key slot 0 alone."""
-    luks1(path, source)
-    cryptsetup("luksKillSlot --key-file pass", path, "5", cwd=path.parent)
 
 
 def argon2(path, source):
@@ -100,22 +98,8 @@ def argon2(path, source):
 def disk(path, source, table="label: gpt\nstart=2048, size=4096\nstart=6144\n", sector=6144,
          size=16 * MIB):
     """A whole disk with a volume in one of its partitions."""
-    path.touch()
-    os.truncate(path, size)
-    must("sfdisk", "-q", path, stdin=table.encode())
+    must("sfdisk", "-q", empty_file(path, size), stdin=table.encode())
     volumes.overwrite(path, sector * 512, source.read_bytes())
-
-
-def partition1(path, source):
-    disk(path, source, "start=2048, size=24576\n", 2048)
-
-
-def two_partitions(path, source):
-    disk(path, source, "label: gpt\nstart=2048, size=16384\nstart=18432, size=12288\n", 2048)
-
-
-def second_partition(path, source):
-    disk(path, source, "label: gpt\nstart=2048, size=2048\nstart=4096, size=16384\n", 4096)
 
 
 def lost_table(path, source):
@@ -127,31 +111,12 @@ def packed(*command):
     return lambda path, source: path.write_bytes(must(*command, source))
 
 
-def qcow2(path, source):
-    must("qemu-img", "convert", "-f", "raw", "-O", "qcow2", source, path)
-
-
-def backup(path, source):
-    cryptsetup("luksHeaderBackup --header-backup-file", path, source)
-
-
-def without_header(path, source):
-    """A volume whose first MiB is noise."""
-    copy_of(source, path)
-    volumes.overwrite(path, 0, os.urandom(MIB))
+def overwritten(at, content):
+    return lambda path, source: volumes.overwrite(copy_of(source, path), at, content)
 
 
 def cut(count):
-    def make(path, source):
-        copy_of(source, path)
-        os.truncate(path, source.stat().st_size - count)
-
-    return make
-
-
-def no_iterations(path, source):
-    copy_of(source, path)
-    volumes.overwrite(path, 212, b"\xff" * 4)
+    return lambda path, source: os.truncate(copy_of(source, path), source.stat().st_size - count)
 
 
 def third(path, source):
@@ -162,19 +127,28 @@ def third(path, source):
     volumes.overwrite(path, 16384 + 5000, b"\xff")
 
 
-def bytes_of(content):
-    return lambda path: path.write_bytes(content)
-
-
 MAKERS = {maker.__name__: maker for maker in (
-    with_random, emptied, damaged, luks1, luks2, one_slot, one_slot1, argon2, disk, partition1, two_partitions,
-    second_partition, lost_table, qcow2, backup, without_header, no_iterations, third)}
-MAKERS |= {"zst": packed("zstd", "-q", "-c"), "xz": packed("xz", "-c", "--block-size=1M"),
-           "cut1": cut(1500000), "cut7": cut(7 * MIB), "first500": lambda path, source:
-           path.write_bytes(source.read_bytes()[:500])}
+    with_random, emptied, damaged, luks1, luks2, argon2, disk, lost_table, third)}
+MAKERS |= {
+    "one_slot": one_slot(luks2, "1"),
+    "one_slot1": one_slot(luks1, "5"),
+    "partition1": lambda path, source: disk(path, source, "start=2048, size=24576\n", 2048),
+    "two_partitions": lambda path, source: disk(
+        path, source, "label: gpt\nstart=2048, size=16384\nstart=18432, size=12288\n", 2048),
+    "second_partition": lambda path, source: disk(
+        path, source, "label: gpt\nstart=2048, size=2048\nstart=4096, size=16384\n", 4096),
+    "qcow2": lambda path, source: must("qemu-img", "convert", "-f", "raw", "-O", "qcow2", source, path),
+    "backup": lambda path, source: cryptsetup("luksHeaderBackup --header-backup-file", path, source),
+    "without_header": overwritten(0, os.urandom(MIB)),
+    "no_iterations": overwritten(212, b"\xff" * 4),
+    "zst": packed("zstd", "-q", "-c"),
+    "xz": packed("xz", "-c", "--block-size=1M"),
+    "cut1": cut(1500000),
+    "cut7": cut(7 * MIB),
+    "first500": lambda path, source: path.write_bytes(source.read_bytes()[:500]),
+}
 BASES = {"empty": b"", "zeros": bytes(8 * MIB), "key": bytes(range(64)), "more": b"what follows",
          "candidates": PASS + b" \r\n" + PASS}
-FILE_SYSTEMS = ("inside", "ext2", "ext3", "ext4", "xfs", "btrfs", "ntfs")
 
 
 @pytest.fixture(scope="session")
@@ -182,12 +156,15 @@ def stock(cached):
     """stock(NAME) is a file: `luks1 ext4` is an ext4 file system in a LUKS1 volume."""
     def get(name):
         kind, _, source = name.partition(" ")
-        if source:
-            make = lambda path: MAKERS[kind](path, get(source))  # noqa: E731
-        elif kind in BASES:
-            make = bytes_of(BASES[kind])
-        else:
-            make = lambda path: file_system(path, kind)  # noqa: E731
+
+        def make(path):
+            if source:
+                MAKERS[kind](path, get(source))
+            elif kind in BASES:
+                path.write_bytes(BASES[kind])
+            else:
+                file_system(path, kind)
+
         return cached(name.replace(" ", "-of-"), make)
 
     return get
@@ -216,8 +193,8 @@ def plain_cook(request, tmp_path):
 # ---- the recipes
 
 class Case(typing.NamedTuple):
-    """Files in the folder of images, recipes, and the files that these leave and what they print:
-    all of a file in the stock, or a part of it, or bytes."""
+    """Files in the folder of images, recipes, and the files that these leave and what they print: all of a file in the
+    stock, or a part of it (its name, first byte and end), or bytes."""
 
     given: dict
     places: list
@@ -226,14 +203,11 @@ class Case(typing.NamedTuple):
     links: bool = True
     typed: list = [PASS, PASS]
     url: str = "whole.img"
-
-
-def window(name, first, end):
-    return (name, first, end)
+    tools: tuple = ()
 
 
 VOLUME = {"disk.img": "luks1 inside"}
-FIRST = window("inside", 0, MIB)
+FIRST = ("inside", 0, MIB)
 WHOLE = {"whole.img": "disk luks2 ext4", "disk.img": "luks2 ext4"}
 BACKUP = {"disk.img": "without_header luks2 inside", "backup": "backup luks2 inside"}
 PARTITION = {"disk.img": "luks2 inside", "whole.img": "partition1 luks2 inside"}
@@ -270,7 +244,7 @@ CASES = {
         {"disk.img": "luks1 two_partitions ext4"},
         ["RECIPES.md:The size of a volume", "RECIPES.md:A partition, a window of"],
         {"fstab": FSTAB, "part.img": "ext4", "plain.qcow2": "two_partitions ext4",
-         "window": window("two_partitions ext4", MIB, 5 * MIB)},
+         "window": ("two_partitions ext4", MIB, 5 * MIB)},
         ["16777216 bytes", "start=       18432, size=       12288"]),
     "one file by the plugin's page": Case(
         {"disk.img": "luks1 second_partition ext4"},
@@ -313,6 +287,8 @@ CASES = {
         {"disk.img": "luks2 ext4", "candidates": "candidates"},
         ["RESCUE.md:# One line after the other", "RESCUE.md:# Line 2 as the key file"],
         {"pass": PASS}, [f"{SLOT}\nline 2"]),
+    "repaired": Case({"disk.img": "luks1 damaged inside"}, ["RECIPES.md:Show it, repair it"], {},
+                     [" inside", "FILE SYSTEM WAS MODIFIED"], tools=("fuse", "fusermount3", "nbdfuse")),
     "noise": Case({"disk.img": "ext4", "plain.img": "ext4"},
                   ["RESCUE.md:# A partition table, a header"], {},
                   ["luksrd: not a LUKS image"]),
@@ -333,8 +309,6 @@ MORE = {
         VOLUME, [f"nbdkit-luksrd-plugin.1:{text}" for text in (
             "Copy the plaintext out", "Serve a volume on a socket")],
         {"plain.img": "inside", "plain.qcow2": "inside"}),
-    "repaired": Case({"disk.img": "luks1 damaged inside"}, ["RECIPES.md:Show it, repair it"], {},
-                     [" inside", "FILE SYSTEM WAS MODIFIED"]),
     "a detached header": Case({}, ["RECIPES.md:# A detached header"], {"plain.img": "inside"}),
     "many images": Case(
         {"1.img": "luks1 inside", "2.img": "without_header luks2 inside", "3.img": "third luks2 inside",
@@ -392,18 +366,12 @@ def cooked(cook, stock, case):
     return result
 
 
-def output(command, *arguments, **how):
-    """What a run prints, messages included, and its status."""
-    ended = command(*arguments, **how)
-    return ended.output.decode() + ended.message, ended.status
-
-
 def half_empty(path, length):
     """A file takes less than half the room of this length."""
     return path.stat().st_blocks * 512 < length / 2
 
 
-@pytest.mark.parametrize("name", CASES)
+@pytest.mark.parametrize("name", [pytest.param(name, marks=needs(*case.tools)) for name, case in CASES.items()])
 def test_recipes(cook, stock, name):
     cooked(cook, stock, CASES[name])
 
@@ -428,11 +396,6 @@ def test_servers(cook, stock):
     folder = cooked(cook, stock, MORE["servers"]).folder
     process = (folder / "served/plain.pid").read_text().strip()
     wait_until(lambda: not os.path.exists(f"/proc/{process}"))
-
-
-@needs("fuse", "fusermount3", "nbdfuse")
-def test_fuse(cook, stock):
-    cooked(cook, stock, MORE["repaired"])
 
 
 def test_detached_header(cook, stock):
@@ -553,12 +516,11 @@ def test_moved(cook, stock, luksrd):
     folder = cooked(cook, stock, MORE["moved"]).folder
     plain = stock("ext4").read_bytes()
     (folder / "newpass").write_bytes(NEW)
-    must("qemu-img", "convert", "-O", "raw", "--object", "secret,id=s,file=newpass", "--image-opts",
-         "driver=qcow2,encrypt.key-secret=s,file.filename=new.qcow2", "raw", cwd=folder)
-    assert (folder / "raw").read_bytes().startswith(plain)
-    must("qemu-img", "convert", "-O", "raw", "--object", "secret,id=s,file=newpass", "--image-opts",
-         "driver=luks,key-secret=s,file.filename=new.img", "raw", cwd=folder)
-    assert (folder / "raw").read_bytes().startswith(plain)
+    for image in ("driver=qcow2,encrypt.key-secret=s,file.filename=new.qcow2",
+                  "driver=luks,key-secret=s,file.filename=new.img"):
+        must("qemu-img", "convert", "-O", "raw", "--object", "secret,id=s,file=newpass", "--image-opts", image, "raw",
+             cwd=folder)
+        assert (folder / "raw").read_bytes().startswith(plain)
     assert luksrd("luksCat --key-file", folder / "newpass", folder / "new.img").output[:len(plain)] == plain
     for name in ("plain.img", "plain2.img"):
         assert half_empty(folder / name, len(plain))
@@ -588,18 +550,13 @@ def test_file_systems(cook, stock, luksrd, name, image):
 @alone
 @needs("root", "loop", "lvm")
 def test_lvm(plain_cook, stock, loop):
-    """Two logical volumes, the second with a file system. lvm is to look at nothing but the loop
-    device."""
-    group = plain_cook.folder / "group"
-    group.touch()
-    os.truncate(group, 16 * MIB)
+    """Two logical volumes, the second with a file system."""
+    group = empty_file(plain_cook.folder / "group", 16 * MIB)
     device = loop(group)
-    config = f"""devices {{ use_devicesfile=0 filter=["a|^{device}$|","r|.*|"] }}
-        backup {{ backup=0 archive=0 }} global {{ locking_dir="{plain_cook.folder}/lock" }}"""
+    lvm = lvm_over(plain_cook.folder / "lock", device)
     for line in (f"pvcreate {device}", f"vgcreate vg0 {device}", "lvcreate -an -Zn -Wn -l 1 -n swap vg0",
                  "lvcreate -an -Zn -Wn -l 2 -n root vg0"):
-        command, *arguments = line.split()
-        must("lvm", command, "--driverloaded", "n", "--config", config, *arguments)
+        lvm(line)
     image = copy_of(group, plain_cook.images / "plain.img")
     volumes.overwrite(image, 5 * MIB, stock("ext4").read_bytes())
     cooked(plain_cook, stock, MORE["LVM"])
@@ -623,7 +580,7 @@ def test_answers(luksrd, stock, tmp_path):
                                        "partition1 luks2 inside")]
     answers = []
     for image in [*images, reencrypting(stock, tmp_path / "image")]:
-        said, _ = output(luksrd, "luksDump", image)
+        said = luksrd("luksDump", image, stderr=subprocess.STDOUT).output.decode()
         pattern = r"^(Slot 0: [A-Z]+(?: argon2id)?|luksrd: .*|Segment: REFUSED)"
         found = re.findall(pattern, said, re.MULTILINE)
         answers.append("Segment: REFUSED" if len(answers) == 4 and "Segment: REFUSED" in found
@@ -668,8 +625,8 @@ def test_cut_header(luksrd, stock, tmp_path):
 @needs("nbdkit")
 def test_no_ext_file_system(plugin, stock, kinds):
     """What nbdkit's filter says of a volume that has none."""
-    said, _ = output(run, "nbdkit", "-U", "-", "--filter=ext2", plugin, stock("luks2 zeros"),
-                     f"key-file={kinds / 'pass'}", "ext2file=/etc/fstab", "--run", 'nbdcopy "$uri" -')
+    said = run("nbdkit", "-U", "-", "--filter=ext2", plugin, stock("luks2 zeros"), f"key-file={kinds / 'pass'}",
+               "ext2file=/etc/fstab", "--run", 'nbdcopy "$uri" -', stderr=subprocess.STDOUT).output.decode()
     assert "Bad magic number in super-block" in said
     assert "server has no export named '':" in said
 
