@@ -23,7 +23,7 @@ import support  # noqa: E402
 import volumes  # noqa: E402
 from kinds import kinds  # noqa: E402, F401
 from rescuing import bad_sectors, disk1, disk2, luks_cat, rescue  # noqa: E402, F401
-from support import MARK, TOP, Audit, Program, built, wait_until  # noqa: E402
+from support import MARK, TOP, Audit, Program, wait_until  # noqa: E402
 
 # The options of the make that calls pytest are not for those that tests call.
 for variable in "MAKEFLAGS", "MFLAGS", "MAKELEVEL":
@@ -56,13 +56,10 @@ def pytest_addoption(parser):
                      "/bin/true, in the place of all of it: each has to fail")
 
 
-BUILT = {"luksrd", "each_luksrd", "audit", "each_tools", "library", "each_library", "plugin", "filter"}
-
-
 def pytest_collection_modifyitems(config, items):
     if config.getoption("--impostor"):
         items[:] = [item for item in items
-                    if BUILT & set(item.fixturenames) and not item.get_closest_marker("of_script")]
+                    if "built" in item.fixturenames and not item.get_closest_marker("of_script")]
 
 
 def pytest_runtest_setup(item):
@@ -86,10 +83,25 @@ def pytest_runtest_makereport(item):
             report.outcome, report.longrepr = "failed", "passes with an impostor in the place of what it tests"
 
 
+@pytest.fixture(scope="session")
+def built(request):
+    """built(NAME, PART..) is the path of what is built: `luksrd`, `luksrd-v3`, `audit`, `tools`, or a file in the folder
+    `out`. What needs it needs this fixture, so that it is run with an impostor, too."""
+    def get(name, *parts):
+        if impostor := request.config.getoption("--impostor"):
+            return impostor
+        path = request.config.getoption(f"--{name}").resolve().joinpath(*parts)
+        if not path.exists():
+            pytest.fail(f"{path} is not built")
+        return path
+
+    return get
+
+
 @pytest.fixture
-def luksrd(request, tmp_path):
+def luksrd(built, tmp_path):
     """The program, which works in the folder of the test."""
-    return Program(built(request.config, "luksrd"), tmp_path)
+    return Program(built("luksrd"), tmp_path)
 
 
 @pytest.fixture(params=["x86-64-v2", "x86-64-v3"])
@@ -101,41 +113,41 @@ def processor(request):
 
 
 @pytest.fixture
-def each_luksrd(request, processor, tmp_path):
-    return Program(built(request.config, {"x86-64-v2": "luksrd", "x86-64-v3": "luksrd-v3"}[processor]), tmp_path)
+def each_luksrd(built, processor, tmp_path):
+    return Program(built({"x86-64-v2": "luksrd", "x86-64-v3": "luksrd-v3"}[processor]), tmp_path)
 
 
 @pytest.fixture
-def audit(request, tmp_path):
-    return Audit(built(request.config, "audit"), tmp_path)
+def audit(built, tmp_path):
+    return Audit(built("audit"), tmp_path)
 
 
 @pytest.fixture
-def each_tools(request, processor, tmp_path):
-    return Program(built(request.config, {"x86-64-v2": "tools", "x86-64-v3": "tools-v3"}[processor]), tmp_path)
+def each_tools(built, processor, tmp_path):
+    return Program(built({"x86-64-v2": "tools", "x86-64-v3": "tools-v3"}[processor]), tmp_path)
 
 
 @pytest.fixture
-def library(request):
+def library(built):
     """The shared library; its folder has the static one and the link libluksrd.so."""
-    return built(request.config, "out", "libluksrd.so")
+    return built("out", "libluksrd.so")
 
 
 @pytest.fixture
-def each_library(request, processor):
+def each_library(built, processor):
     """The shared library for each processor."""
     names = {"x86-64-v2": "libluksrd.so", "x86-64-v3": "glibc-hwcaps/x86-64-v3/libluksrd.so.2"}
-    return built(request.config, "out", names[processor])
+    return built("out", names[processor])
 
 
 @pytest.fixture
-def plugin(request):
-    return built(request.config, "out", "nbdkit-luksrd-plugin.so")
+def plugin(built):
+    return built("out", "nbdkit-luksrd-plugin.so")
 
 
 @pytest.fixture
-def filter(request):
-    return built(request.config, "out", "nbdkit-luksrd-filter.so")
+def filter(built):
+    return built("out", "nbdkit-luksrd-filter.so")
 
 
 @pytest.fixture(autouse=True)

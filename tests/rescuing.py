@@ -14,7 +14,7 @@ import time
 import pytest
 import volumes
 from kinds import VOLUME1, VOLUME2
-from support import PATIENCE, TOP, built, end_group, must, run, wait_until
+from support import PATIENCE, TOP, end_group, must, run, wait_until
 from volumes import copy_of
 
 COMMAND = TOP / "rescue/luksrd-rescue"
@@ -57,10 +57,9 @@ def rescue(request, library, audit, tmp_path):
 
 
 @pytest.fixture
-def luks_cat(request, tmp_path):
+def luks_cat(built, tmp_path):
     """luks_cat(WORD, ..): how luksCat ends."""
-    program = built(request.config, "luksrd")
-    return lambda *words, **how: run(program, "luksCat", *map(os.fspath, words), **{"cwd": tmp_path, **how})
+    return lambda *words, **how: run(built("luksrd"), "luksCat", *map(os.fspath, words), **{"cwd": tmp_path, **how})
 
 
 class Terminal:

@@ -137,16 +137,6 @@ class Audit(Program):
         return ended
 
 
-def built(config, name, *parts):
-    """The path of what is built: `luksrd`, `luksrd-v3`, `audit`, `tools`, or a file in the folder `out`."""
-    if impostor := config.getoption("--impostor"):
-        return impostor
-    path = config.getoption(f"--{name}").resolve().joinpath(*parts)
-    if not path.exists():
-        pytest.fail(f"{path} is not built")
-    return path
-
-
 def must(*command, **how):
     """The standard output of a command that has to succeed, one that makes what a test needs."""
     ended = run(*command, **how)

@@ -6,7 +6,7 @@ import pathlib
 import re
 
 import pytest
-from support import TOP, alone, built, expect, must, needs, run, runs_v3
+from support import TOP, alone, expect, must, needs, run, runs_v3
 from test_install import FILTER, GUIDES, LIBRARY_PAGES, PLUGIN, RESCUE, VERSION, Make, files_in
 
 pytestmark = [alone, needs("dh", "dh_python3", "chrpath", "lintian", "/usr/include/nbdkit-plugin.h")]
@@ -53,19 +53,13 @@ DEPENDS = [
 ]
 
 
-def variables_of(config):
-    """The variables of make for all that is built."""
-    program = built(config, "luksrd")
-    return {"PROGRAM": program, "PROGRAM_V2": program, "PROGRAM_V3": built(config, "luksrd-v3"),
-            "AUDIT": built(config, "audit"), "LIBRARY": built(config, "out", "libluksrd.a"),
-            "SHARED": built(config, "out", "libluksrd.so"), "SHARED_V3": built(config, "out", V3),
-            "PLUGIN": built(config, "out", PLUGIN), "FILTER": built(config, "out", FILTER)}
-
-
 @pytest.fixture(scope="module")
-def made(request, tmp_path_factory):
+def made(built, tmp_path_factory):
     """make with what is built, and the packages by name, which it has made into a folder with a blank in its name."""
-    make = Make(variables_of(request.config))
+    make = Make({"PROGRAM": built("luksrd"), "PROGRAM_V2": built("luksrd"), "PROGRAM_V3": built("luksrd-v3"),
+                 "AUDIT": built("audit"), "LIBRARY": built("out", "libluksrd.a"),
+                 "SHARED": built("out", "libluksrd.so"), "SHARED_V3": built("out", V3),
+                 "PLUGIN": built("out", PLUGIN), "FILTER": built("out", FILTER)})
     folder = tmp_path_factory.mktemp("debs") / "a folder"
     ended = make("deb", DEBS=folder)
     assert (ended.status, ended.message) == (0, "")

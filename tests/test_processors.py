@@ -7,7 +7,7 @@ import shutil
 import signal
 
 import pytest
-from support import TOP, built, expect, must, needs, run
+from support import TOP, expect, must, needs, run
 from test_install import Make
 from volumes import copy_of
 
@@ -35,17 +35,17 @@ def lack(level):
     ("Haswell", "luksrd", ""),
     ("Haswell", "luksrd-v3", ""),
 ])
-def test_program_on_a_processor(request, here, sample, processor, name, message):
-    ended = emulated(processor, built(request.config, name), "luksCat", "--key-file", "pass", "volume", cwd=here)
+def test_program_on_a_processor(built, here, sample, processor, name, message):
+    ended = emulated(processor, built(name), "luksCat", "--key-file", "pass", "volume", cwd=here)
     expect(ended, b"" if message else sample.plain, message, 127 if message else 0)
 
 
 @pytest.fixture
-def system(request, plugin, here):
+def system(built, plugin, here):
     """The plugin and a program in C, as they are installed: below a PREFIX, whose library the plugin finds from its own
     folder and the program by the folder that it names; and in a system of its own, whose loader finds the library by
     ldconfig's cache."""
-    shared, shared_v3 = built(request.config, "out", "libluksrd.so"), built(request.config, "out", V3)
+    shared, shared_v3 = built("out", "libluksrd.so"), built("out", V3)
     make = Make({"LIBRARY": shared, "SHARED": shared, "SHARED_V3": shared_v3, "PLUGIN": plugin})
     for where in {"PREFIX": here / "own"}, {"PREFIX": "/usr/local", "PLUGINS": "/plugins", "DESTDIR": here / "system"}:
         ended = make("install-library", "install-plugin", **where)
@@ -84,10 +84,10 @@ def test_library_on_a_processor(system, sample, processor, library):
 
 
 @needs("qemu-x86_64", "gcc")
-def test_library_for_newer_processors_alone(request, system, sample):
+def test_library_for_newer_processors_alone(built, system, sample):
     """Past the loader, an older processor does not know its instructions: the program ends by SIGILL."""
     (system / "alone").mkdir()
-    copy_of(built(request.config, "out", V3), system / "alone/libluksrd.so.2")
+    copy_of(built("out", V3), system / "alone/libluksrd.so.2")
     words = ["-E", f"LD_LIBRARY_PATH={system}/alone", "./by_cache", "volume", "-", "pass"]
     expect(emulated("Haswell", *words, cwd=system), sample.plain)
     assert emulated("Westmere", *words, cwd=system).status == -signal.SIGILL
