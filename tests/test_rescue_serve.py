@@ -124,6 +124,7 @@ def test_a_header_alone(rescue, serve, kinds, tmp_path):
     assert not (tmp_path / "plain").exists()
 
 
+@pytest.mark.of_script
 @needs("qemu-img")
 def test_another_form(rescue, serve, kinds, tmp_path):
     must("qemu-img", "convert", "-f", "raw", "-O", "qcow2", kinds / VOLUME1, tmp_path / "disk.qcow2")
