@@ -116,7 +116,7 @@ impl Text {
     }
 }
 
-// A text of a binary header: all bytes but visible ASCII and spaces as `\xHH`, and so the backslash.
+// A text of a binary header: all bytes but visible ASCII and spaces as `\xHH`, the backslash too.
 fn escaped(alloc: Global, text: &[u8]) -> Result<String, AllocError>
     ensures { IfOk result (λ printed. string_bytes printed ≡ escaped text.now) }
 {

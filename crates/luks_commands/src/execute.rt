@@ -62,9 +62,10 @@ mod volumes;
 /// written, unless a damaged primary header made the search for another one read into the payload.
 /// All this holds for images shorter than 2^64 bytes.
 ///
-/// If memory runs out in `testPassphrase` or `luksCat`, no byte of a LUKS1 image was consumed, or
-/// some key slot can be tried. So "out of memory" never hides that a named key slot is not there.
-/// With LUKS2 it may: the tree of the JSON text is made after the header's last byte was consumed.
+/// If memory runs out in `testPassphrase` or `luksCat` over a LUKS1 image, no byte of it was
+/// consumed, or some key slot can be tried. So once a byte was consumed, "out of memory" does not
+/// hide that a named key slot is not there. With LUKS2 it may: the tree of the JSON text is made
+/// after the header's last byte was consumed. (Both inputs must know their bytes for that.)
 pub fn execute<I: Source, K: Source, O: Sink>(
     alloc: Global,
     command: &Command<'_>,
