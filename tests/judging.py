@@ -88,7 +88,7 @@ def cipher_length(found):
     if found["cipher"] is None or found["key_bytes"] is None:
         return None
     hmac = rf"hmac\(({'|'.join(HMACS)})\)"
-    tags = of_tags(f"{hmac}$", found["integrity"]) + of_tags(rf"capi:authenc\({hmac},", found["cipher"])
+    tags = of_tags(rf"capi:authenc\({hmac},", found["cipher"]) or of_tags(f"{hmac}$", found["integrity"])
     return max(found["key_bytes"] - tags, 0)
 
 

@@ -332,6 +332,12 @@ def test_plaintext(audit, luksrd, image):
     ("aes-xts-plain64", "aead", 63, 31), ("chacha20-random", "poly1305", 32, None),
     ("capi:authenc(hmac(sha256),xts(aes))-random", "aead", 95, 31),
     ("capi:authenc(hmac(sha256),xts(aes))-random", "aead", 96, None),
+    # the key of a segment is the cipher's key and one integrity key, whichever of both names it
+    ("capi:authenc(hmac(sha256),xts(aes))-plain64", None, 95, 31),
+    ("capi:authenc(hmac(sha256),xts(aes))-plain64", None, 96, None),
+    ("capi:authenc(hmac(sha256),xts(aes))-plain64", "hmac(sha256)", 64, 16),
+    ("capi:authenc(hmac(sha256),xts(aes))-plain64", "hmac(sha256)", 95, 31),
+    ("capi:authenc(hmac(sha256),xts(aes))-plain64", "hmac(sha256)", 96, None),
     ("aes-xts-plain64", "hmac(sha256)", 20, 0),
     ("aes-lrw-benbi", None, 32, 16), ("aes-lrw-benbi", None, 48, None), ("capi:lrw(aes)-benbi", None, 47, 31),
     (None, None, 16, None),

@@ -1,5 +1,5 @@
 -- The length of the key that is a cipher's own, and when it is short.
-use Rattle.std.specs.Prelude.{ℕ, ◌-◌, ◌/◌, Bool, false, List, Option, Some, None, codes, if◌then◌else◌, nat_lt, option_map}
+use Rattle.std.specs.Prelude.{ℕ, ◌-◌, ◌/◌, ◌==◌, Bool, false, List, Option, Some, None, codes, if◌then◌else◌, nat_lt, option_map}
 use Rattle.luks_audit.specs.Cipher.{begins_with}
 use Rattle.luks_audit.specs.Token.{is_named}
 use Rattle.luks_audit.specs.declared.rows.CipherMode.{CipherMode}
@@ -27,11 +27,15 @@ authenc_key_len cipher =
     else if begins_with (codes "capi:authenc(hmac(sha512),") cipher then 64
     else 0
 
+-- the same by both: the volume key has it once, even if the cipher and the type name it
+unfoldable pub tag_key_len : List ℕ → Option (List ℕ) → ℕ
+tag_key_len cipher kind =
+    if authenc_key_len cipher == 0 then integrity_key_len kind else authenc_key_len cipher
+
 -- the length of the cipher's part, by the cipher, the type of integrity tags, and the volume key's length
 unfoldable pub cipher_key_len : Option (List ℕ) → Option (List ℕ) → Option ℕ → Option ℕ
 cipher_key_len None kind bytes = None
-cipher_key_len (Some cipher) kind bytes =
-    option_map (λ n. n - integrity_key_len kind - authenc_key_len cipher) bytes
+cipher_key_len (Some cipher) kind bytes = option_map (λ n. n - tag_key_len cipher kind) bytes
 
 -- ---- the cipher's own key
 

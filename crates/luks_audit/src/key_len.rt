@@ -2,7 +2,7 @@
 
 ghost use Rattle.std.specs.Prelude.{◌≡◌};
 ghost use Rattle.luks_audit.specs.KeyLength.{authenc_key_len, integrity_key_len, is_known_short};
-ghost use Rattle.luks_audit.specs.KeyLength.{is_short, own_key_len};
+ghost use Rattle.luks_audit.specs.KeyLength.{is_short, own_key_len, tag_key_len};
 ghost use Rattle.luks_audit.specs.Weakness.{segment_key_len};
 
 use crate::cipher::begins_with;
@@ -47,6 +47,19 @@ fn authenc_key_len(cipher: &[u8]) -> u64
     }
 }
 
+// The length in bytes of that key by both: it is there once.
+#[tactic(auto, unfolding(crate::specs::KeyLength::tag_key_len))]
+fn tag_key_len(cipher: &[u8], kind: &Option<Text>) -> u64
+    ensures { result ≡ tag_key_len cipher.now kind.now }
+{
+    let len = authenc_key_len(cipher);
+    if len == 0 {
+        integrity_key_len(kind)
+    } else {
+        len
+    }
+}
+
 /// The length in bytes of the part of the volume key that is the cipher's.
 #[tactic(auto, unfolding(crate::specs::KeyLength::cipher_key_len))]
 pub(crate) fn segment_key_len(row: &PayloadRow) -> Option<u64>
@@ -55,10 +68,9 @@ pub(crate) fn segment_key_len(row: &PayloadRow) -> Option<u64>
     let Some(cipher) = &row.cipher else {
         return None;
     };
-    let tags = integrity_key_len(&row.integrity);
-    let inner = authenc_key_len(cipher.as_str().as_bytes());
+    let tags = tag_key_len(cipher.as_str().as_bytes(), &row.integrity);
     match row.key_bytes {
-        Some(bytes) => Some(bytes.saturating_sub(tags).saturating_sub(inner)),
+        Some(bytes) => Some(bytes.saturating_sub(tags)),
         None => None,
     }
 }

@@ -181,7 +181,7 @@ fn lists(rt: HostRuntime) {
 }
 
 // The volume key's length, segments, and what is weak.
-static SEGMENTS: [(&str, &str, &str); 13] = [
+static SEGMENTS: [(&str, &str, &str); 15] = [
     (
         // a segment that is not encrypted
         "64",
@@ -229,6 +229,17 @@ static SEGMENTS: [(&str, &str, &str); 13] = [
     (
         "96",
         "{\"0\":{\"type\":\"crypt\",\"offset\":\"32768\",\"size\":\"dynamic\",\"iv_tweak\":\"0\",\"sector_size\":512,\"encryption\":\"capi:authenc(hmac(sha256),xts(aes))-random\"}}",
+        "[]",
+    ),
+    (
+        // the cipher and the type name one key
+        "95",
+        "{\"0\":{\"type\":\"crypt\",\"offset\":\"32768\",\"size\":\"dynamic\",\"iv_tweak\":\"0\",\"sector_size\":512,\"encryption\":\"capi:authenc(hmac(sha256),xts(aes))-plain64\",\"integrity\":{\"type\":\"hmac(sha256)\",\"journal_encryption\":\"none\",\"journal_integrity\":\"none\"}}}",
+        "[{\"limit\":32,\"name\":\"short-key\",\"place\":\"segment\",\"severity\":\"low\",\"value\":31}]",
+    ),
+    (
+        "96",
+        "{\"0\":{\"type\":\"crypt\",\"offset\":\"32768\",\"size\":\"dynamic\",\"iv_tweak\":\"0\",\"sector_size\":512,\"encryption\":\"capi:authenc(hmac(sha256),xts(aes))-plain64\",\"integrity\":{\"type\":\"hmac(sha256)\",\"journal_encryption\":\"none\",\"journal_integrity\":\"none\"}}}",
         "[]",
     ),
     (
