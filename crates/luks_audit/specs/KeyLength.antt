@@ -1,7 +1,9 @@
 -- The length of the key that is a cipher's own, and when it is short.
 use Rattle.std.specs.Prelude.{ℕ, ◌-◌, ◌/◌, ◌==◌, Bool, false, List, Option, Some, None, codes, if◌then◌else◌, nat_lt, option_map}
 use Rattle.luks_audit.specs.Cipher.{begins_with}
+use Rattle.luks_audit.specs.Text.{text_bytes}
 use Rattle.luks_audit.specs.Token.{is_named}
+use Rattle.luks_audit.specs.declared.text.Text.{Text}
 use Rattle.luks_audit.specs.declared.rows.CipherMode.{CipherMode}
 use Rattle.luks_audit.specs.declared.rows.CipherMode.TheVariants.{Null, Xts, Lrw}
 
@@ -12,7 +14,7 @@ least_key_len = 32
 -- ---- volume keys, which end with a key for integrity tags if these are HMACs: it is as long as they are
 
 -- the length in bytes of that key, by the type of integrity tags
-abbrev pub integrity_key_len : Option (List ℕ) → ℕ
+abbrev pub integrity_key_len : Option Text → ℕ
 integrity_key_len kind =
     if is_named (codes "hmac(sha1)") kind then 20
     else if is_named (codes "hmac(sha256)") kind then 32
@@ -28,14 +30,14 @@ authenc_key_len cipher =
     else 0
 
 -- the same by both: the volume key has it once, even if the cipher and the type name it
-unfoldable pub tag_key_len : List ℕ → Option (List ℕ) → ℕ
+unfoldable pub tag_key_len : List ℕ → Option Text → ℕ
 tag_key_len cipher kind =
     if authenc_key_len cipher == 0 then integrity_key_len kind else authenc_key_len cipher
 
 -- the length of the cipher's part, by the cipher, the type of integrity tags, and the volume key's length
-unfoldable pub cipher_key_len : Option (List ℕ) → Option (List ℕ) → Option ℕ → Option ℕ
+unfoldable pub cipher_key_len : Option Text → Option Text → Option ℕ → Option ℕ
 cipher_key_len None kind bytes = None
-cipher_key_len (Some cipher) kind bytes = option_map (λ n. n - tag_key_len cipher kind) bytes
+cipher_key_len (Some cipher) kind bytes = option_map (λ n. n - tag_key_len (text_bytes cipher) kind) bytes
 
 -- ---- the cipher's own key
 

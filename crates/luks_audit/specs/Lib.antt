@@ -10,6 +10,7 @@ pub mod Rows1
 pub mod Rows2
 pub mod Shape
 pub mod Table
+pub mod Text
 pub mod Token
 pub mod Tree
 pub mod Verdict

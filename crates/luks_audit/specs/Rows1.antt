@@ -1,30 +1,29 @@
 -- Which member of a LUKS1 header each field is (LUKS1 On-Disk Format Specification 1.2.3, section 2.1, figures 1 to 3).
 use Rattle.std.specs.Prelude.{ℕ, ◌*◌, ◌++◌, Bool, false, List, Some, None, codes, not}
-use Rattle.hex.specs.Hex.{encode_lower}
-use Rattle.luks_report.specs.DumpLine.{escaped}
 use Rattle.luks_format.specs.Rule.{key_material_len}
 use Rattle.luks_format.specs.declared.slot.VerdictKind.{VerdictKind}
 use Rattle.luks_format.specs.Slot1.{is_disabled}
 use Rattle.luks_format.specs.declared.header.Header1.{Header1}
 use Rattle.luks_format.specs.declared.header.StoredSlot.{StoredSlot}
 use Rattle.luks_audit.specs.Cipher.{mode_of}
-use Rattle.luks_audit.specs.Verdict.{is_kind_usable, kind_text, reason_in}
 use Rattle.luks_audit.specs.declared.rows.CipherMode.{CipherMode}
 use Rattle.luks_audit.specs.declared.rows.DigestRow.{DigestRow}
 use Rattle.luks_audit.specs.declared.rows.HeaderRow.{HeaderRow}
 use Rattle.luks_audit.specs.declared.rows.Length.TheVariants.{Dynamic}
 use Rattle.luks_audit.specs.declared.rows.PayloadRow.{PayloadRow}
 use Rattle.luks_audit.specs.declared.rows.SlotRow.{SlotRow}
+use Rattle.luks_audit.specs.declared.text.Text.{Text}
+use Rattle.luks_audit.specs.declared.text.Text.TheVariants.{Fixed, Unicode, Binary}
 
 -- LUKS1 has one header, without a label or what the binary header of LUKS2 has besides
 unfoldable pub header1_row : Header1 → HeaderRow
 header1_row header = record {
   version = 1;
-  uuid = escaped header.uuid;
+  uuid = Fixed header.uuid;
   label = None;
   subsystem = None;
-  header = None;
-  other_header = None;
+  role = None;
+  finding = None;
   seqid = None;
   header_size = None;
   checksum_hash = None;
@@ -32,8 +31,8 @@ header1_row header = record {
 }
 
 -- the cipher and its mode, as dm-crypt names them
-abbrev pub cipher1_of : Header1 → List ℕ
-cipher1_of header = escaped header.cipher_name ++ codes "-" ++ escaped header.cipher_mode
+abbrev pub cipher1_of : Header1 → Text
+cipher1_of header = Fixed (header.cipher_name ++ codes "-" ++ header.cipher_mode)
 
 -- how the cipher encrypts sectors: in the notation of the kernel's crypto API its name has all its templates
 unfoldable pub cipher_mode1 : Header1 → CipherMode
@@ -59,22 +58,20 @@ payload1_row header = record {
 
 -- a slot's key is derived by PBKDF2, and its area has the bytes that it needs
 unfoldable pub slot1_row : Header1 → StoredSlot → ℕ → VerdictKind → Bool → SlotRow
-slot1_row header slot number kind library_can_try = record {
+slot1_row header slot number verdict library_can_try = record {
   number = number;
-  state = kind_text kind;
-  reason = reason_in kind;
-  can_try = is_kind_usable kind;
+  verdict = verdict;
   library_can_try = library_can_try;
   priority = Some 1;
   key_bytes = Some header.key_bytes;
-  kdf = Some (codes "pbkdf2");
-  hash = Some (escaped header.hash_spec);
-  salt = Some (encode_lower slot.salt);
+  kdf = Some (Unicode (codes "pbkdf2"));
+  hash = Some (Fixed header.hash_spec);
+  salt = Some (Binary slot.salt);
   iterations = Some slot.iterations;
   time = None;
   memory = None;
   threads = None;
-  af_hash = Some (escaped header.hash_spec);
+  af_hash = Some (Fixed header.hash_spec);
   stripes = Some slot.stripes;
   area_cipher = Some (cipher1_of header);
   area_key_bytes = Some header.key_bytes;
@@ -88,11 +85,11 @@ slot1_row header slot number kind library_can_try = record {
 unfoldable pub digest1_row : Header1 → DigestRow
 digest1_row header = record {
   number = 0;
-  kind = Some (codes "pbkdf2");
-  hash = Some (escaped header.hash_spec);
-  salt = Some (encode_lower header.digest_salt);
+  kind = Some (Unicode (codes "pbkdf2"));
+  hash = Some (Fixed header.hash_spec);
+  salt = Some (Binary header.digest_salt);
   iterations = Some header.digest_iterations;
-  digest = Some (encode_lower header.digest);
+  digest = Some (Binary header.digest);
   bytes = Some 20;
   keyslots = None;
   segments = None;

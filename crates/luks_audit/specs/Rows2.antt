@@ -1,22 +1,14 @@
 -- Which member of a LUKS2 header each field is (LUKS2 On-Disk Format Specification 1.1, sections 2.1 and 3).
 use Rattle.std.specs.Prelude.{ℕ, ◌||◌, Bool, false, List, Option, Some, None, codes, if◌then◌else◌, length}
 use Rattle.std.specs.Prelude.{option_and_then, option_map, unwrap_or}
-use Rattle.hex.specs.Hex.{encode_lower}
-use Rattle.luks_report.specs.DumpLine.{escaped}
-use Rattle.luks_report.specs.Dump2.{role_text}
-use Rattle.luks_kdf.specs.Hash.{hash_name}
 use Rattle.luks_format.specs.Rule.{max_slots}
 use Rattle.luks_format.specs.declared.slot.VerdictKind.{VerdictKind}
 use Rattle.luks2_binary.specs.declared.header.Header2.{Header2}
-use Rattle.luks2_binary.specs.declared.header.PairFinding.{PairFinding}
-use Rattle.luks2_binary.specs.declared.header.PairFinding.TheVariants.{PrimaryNotValid, SecondaryNotValid}
-use Rattle.luks2_binary.specs.declared.header.PairFinding.TheVariants.{SequencesDiffer}
 use Rattle.luks2_json.specs.List.{strings_at}
 use Rattle.luks2_json.specs.Member.{base64_member, decimal_member, has, in_member, integer_member, is_type}
 use Rattle.luks2_json.specs.Member.{string_is, string_member}
 use Rattle.luks2_json.specs.Numbered.{lowest, object_numbered}
 use Rattle.luks_audit.specs.Cipher.{cipher_mode2}
-use Rattle.luks_audit.specs.Verdict.{is_kind_usable, kind_text, reason_in}
 use Rattle.luks_audit.specs.Tree.{unless_float}
 use Rattle.luks_audit.specs.declared.rows.DigestRow.{DigestRow}
 use Rattle.luks_audit.specs.declared.rows.HeaderRow.{HeaderRow}
@@ -25,28 +17,23 @@ use Rattle.luks_audit.specs.declared.rows.Length.TheVariants.{Dynamic, Fixed}
 use Rattle.luks_audit.specs.declared.rows.PayloadRow.{PayloadRow}
 use Rattle.luks_audit.specs.declared.rows.SlotRow.{SlotRow}
 use Rattle.luks_audit.specs.declared.rows.TokenRow.{TokenRow}
+use Rattle.luks_audit.specs.declared.text.Text.{Text}
+use Rattle.luks_audit.specs.declared.text.Text.TheVariants.{Fixed, Unicode, Binary}
 use Rattle.serde_json.specs.Data.{Data, Members, no_members, member}
 use Rattle.serde_json.specs.Find.{as_object, get}
-
--- what is wrong with the header that is not the listed one
-abbrev pub other_header_of : Option PairFinding → Option (List ℕ)
-other_header_of None = None
-other_header_of (Some PrimaryNotValid) = Some (codes "not valid")
-other_header_of (Some SecondaryNotValid) = Some (codes "not valid")
-other_header_of (Some SequencesDiffer) = Some (codes "sequence number differs")
 
 unfoldable pub header2_row : Header2 → HeaderRow
 header2_row header = record {
   version = 2;
-  uuid = escaped header.uuid;
-  label = Some (escaped header.label);
-  subsystem = Some (escaped header.subsystem);
-  header = Some (role_text header.role);
-  other_header = other_header_of header.finding;
+  uuid = Fixed header.uuid;
+  label = Some (Fixed header.label);
+  subsystem = Some (Fixed header.subsystem);
+  role = Some header.role;
+  finding = header.finding;
   seqid = Some header.sequence;
   header_size = Some header.size;
-  checksum_hash = Some (hash_name header.hash);
-  salt = Some (encode_lower header.salt);
+  checksum_hash = Some header.hash;
+  salt = Some (Binary header.salt);
 }
 
 -- ---- the payload: segment 0, whether or not there are others
@@ -93,15 +80,15 @@ has_linear tree = unwrap_or (option_map any_linear (in_member (codes "segments")
 
 unfoldable pub payload2_row : Data → PayloadRow
 payload2_row tree = record {
-  cipher = in_segment0 (string_member (codes "encryption")) tree;
+  cipher = option_map Unicode (in_segment0 (string_member (codes "encryption")) tree);
   key_bytes = volume_key_size tree;
   sector_size = in_segment0 (integer_member (codes "sector_size")) tree;
   iv_tweak = in_segment0 (decimal_member (codes "iv_tweak")) tree;
   segment_offset = in_segment0 (decimal_member (codes "offset")) tree;
   segment_size = in_segment0 length_in tree;
-  segment_type = in_segment0 (string_member (codes "type")) tree;
+  segment_type = option_map Unicode (in_segment0 (string_member (codes "type")) tree);
   segment_flags = segment_flags_of tree;
-  integrity = in_segment0 (in_member (codes "integrity") (string_member (codes "type"))) tree;
+  integrity = option_map Unicode (in_segment0 (in_member (codes "integrity") (string_member (codes "type"))) tree);
   flags = flags_of tree;
   requirements = requirements_of tree;
   has_linear = has_linear tree;
@@ -114,26 +101,28 @@ payload2_row tree = record {
 unfoldable pub priority2_of : Data → Option ℕ
 priority2_of slot = if has (codes "priority") slot then integer_member (codes "priority") slot else Some 1
 
+-- the string under a name in an object of a slot
+abbrev pub nested_text : List ℕ → List ℕ → Data → Option Text
+nested_text object name slot = option_map Unicode (in_member object (string_member name) slot)
+
 -- a slot of another type than luks2 holds no key
 unfoldable pub slot2_row : Data → ℕ → VerdictKind → Bool → SlotRow
-slot2_row slot number kind library_can_try = record {
+slot2_row slot number verdict library_can_try = record {
   number = number;
-  state = kind_text kind;
-  reason = reason_in kind;
-  can_try = is_kind_usable kind;
+  verdict = verdict;
   library_can_try = library_can_try;
   priority = priority2_of slot;
   key_bytes = integer_member (codes "key_size") slot;
-  kdf = in_member (codes "kdf") (string_member (codes "type")) slot;
-  hash = in_member (codes "kdf") (string_member (codes "hash")) slot;
-  salt = option_map encode_lower (in_member (codes "kdf") (base64_member (codes "salt")) slot);
+  kdf = nested_text (codes "kdf") (codes "type") slot;
+  hash = nested_text (codes "kdf") (codes "hash") slot;
+  salt = option_map Binary (in_member (codes "kdf") (base64_member (codes "salt")) slot);
   iterations = in_member (codes "kdf") (integer_member (codes "iterations")) slot;
   time = in_member (codes "kdf") (integer_member (codes "time")) slot;
   memory = in_member (codes "kdf") (integer_member (codes "memory")) slot;
   threads = in_member (codes "kdf") (integer_member (codes "cpus")) slot;
-  af_hash = in_member (codes "af") (string_member (codes "hash")) slot;
+  af_hash = nested_text (codes "af") (codes "hash") slot;
   stripes = in_member (codes "af") (integer_member (codes "stripes")) slot;
-  area_cipher = in_member (codes "area") (string_member (codes "encryption")) slot;
+  area_cipher = nested_text (codes "area") (codes "encryption") slot;
   area_key_bytes = in_member (codes "area") (integer_member (codes "key_size")) slot;
   area_offset = in_member (codes "area") (decimal_member (codes "offset")) slot;
   area_size = in_member (codes "area") (decimal_member (codes "size")) slot;
@@ -144,11 +133,11 @@ slot2_row slot number kind library_can_try = record {
 unfoldable pub digest2_row : Data → ℕ → DigestRow
 digest2_row digest number = record {
   number = number;
-  kind = string_member (codes "type") digest;
-  hash = string_member (codes "hash") digest;
-  salt = option_map encode_lower (base64_member (codes "salt") digest);
+  kind = option_map Unicode (string_member (codes "type") digest);
+  hash = option_map Unicode (string_member (codes "hash") digest);
+  salt = option_map Binary (base64_member (codes "salt") digest);
   iterations = integer_member (codes "iterations") digest;
-  digest = option_map encode_lower (base64_member (codes "digest") digest);
+  digest = option_map Binary (base64_member (codes "digest") digest);
   bytes = option_map (λ (bytes : List ℕ). length bytes) (base64_member (codes "digest") digest);
   keyslots = Some (strings_at (codes "keyslots") digest);
   segments = Some (strings_at (codes "segments") digest);
@@ -158,7 +147,7 @@ digest2_row digest number = record {
 unfoldable pub token2_row : Data → ℕ → TokenRow
 token2_row token number = record {
   number = number;
-  kind = string_member (codes "type") token;
+  kind = option_map Unicode (string_member (codes "type") token);
   keyslots = strings_at (codes "keyslots") token;
   stored = unless_float token;
 }

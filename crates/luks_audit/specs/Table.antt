@@ -1,7 +1,14 @@
--- The names of the members of each object, with their values.
-use Rattle.std.specs.Prelude.{ℕ, List, [], ◌∷◌, Option, Some, None, codes, map, unwrap_or}
+-- The names of the members of each object, with their values as they are printed.
+use Rattle.std.specs.Prelude.{ℕ, List, [], ◌∷◌, Option, Some, None, codes, map, option_map, unwrap_or}
+use Rattle.luks_kdf.specs.Hash.{hash_name}
+use Rattle.luks2_binary.specs.declared.header.PairFinding.{PairFinding}
+use Rattle.luks2_binary.specs.declared.header.PairFinding.TheVariants.{PrimaryNotValid, SecondaryNotValid}
+use Rattle.luks2_binary.specs.declared.header.PairFinding.TheVariants.{SequencesDiffer}
+use Rattle.luks_report.specs.Dump2.{role_text}
+use Rattle.luks_audit.specs.Text.{optional_text, text_value}
 use Rattle.luks_audit.specs.Token.{slot_tokens}
-use Rattle.luks_audit.specs.Tree.{array_of, empty_object, num, optional_num, optional_text, with_fields}
+use Rattle.luks_audit.specs.Tree.{array_of, empty_object, num, optional_num, optional_word, with_fields}
+use Rattle.luks_audit.specs.Verdict.{is_kind_usable, kind_text, reason_in}
 use Rattle.luks_audit.specs.declared.rows.DigestRow.{DigestRow}
 use Rattle.luks_audit.specs.declared.rows.HeaderRow.{HeaderRow}
 use Rattle.luks_audit.specs.declared.rows.Length.{Length}
@@ -20,6 +27,13 @@ abbrev pub length_value : Option Length → Data
 length_value None = null
 length_value (Some Dynamic) = string (codes "dynamic")
 length_value (Some (Fixed bytes)) = num bytes
+
+-- what is wrong with the header that is not the listed one
+abbrev pub other_header_of : Option PairFinding → Option (List ℕ)
+other_header_of None = None
+other_header_of (Some PrimaryNotValid) = Some (codes "not valid")
+other_header_of (Some SecondaryNotValid) = Some (codes "not valid")
+other_header_of (Some SequencesDiffer) = Some (codes "sequence number differs")
 
 -- which program printed the line, and by which policy
 abbrev pub program_version : List ℕ
@@ -44,18 +58,18 @@ place_fields file offset =
 unfoldable pub volume_fields : HeaderRow → List (List ℕ × Data)
 volume_fields row =
     (codes "version", num row.version)
-    ∷ (codes "uuid", string row.uuid)
+    ∷ (codes "uuid", text_value row.uuid)
     ∷ (codes "label", optional_text row.label)
     ∷ (codes "subsystem", optional_text row.subsystem)
-    ∷ (codes "header", optional_text row.header)
-    ∷ (codes "other_header", optional_text row.other_header)
+    ∷ (codes "header", optional_word (option_map role_text row.role))
+    ∷ (codes "other_header", optional_word (other_header_of row.finding))
     ∷ []
 
 unfoldable pub binary_fields : HeaderRow → List (List ℕ × Data)
 binary_fields row =
     (codes "seqid", optional_num row.seqid)
     ∷ (codes "header_size", optional_num row.header_size)
-    ∷ (codes "checksum_hash", optional_text row.checksum_hash)
+    ∷ (codes "checksum_hash", optional_word (option_map hash_name row.checksum_hash))
     ∷ (codes "salt", optional_text row.salt)
     ∷ []
 
@@ -81,9 +95,9 @@ segment_fields row =
 unfoldable pub verdict_fields : SlotRow → List (List ℕ × Data)
 verdict_fields row =
     (codes "number", num row.number)
-    ∷ (codes "state", string row.state)
-    ∷ (codes "reason", optional_text row.reason)
-    ∷ (codes "can_try", boolean row.can_try)
+    ∷ (codes "state", string (kind_text row.verdict))
+    ∷ (codes "reason", optional_word (reason_in row.verdict))
+    ∷ (codes "can_try", boolean (is_kind_usable row.verdict))
     ∷ (codes "library_can_try", boolean row.library_can_try)
     ∷ []
 

@@ -1,8 +1,10 @@
 -- The tokens of a key slot (LUKS2 On-Disk Format Specification 1.1, section 3.6).
 use Rattle.std.specs.Prelude.{ℕ, ◌&&◌, ◌||◌, Bool, false, List, [], ◌∷◌, Option, bytes_eq, codes, decimal, flat_map}
 use Rattle.std.specs.Prelude.{if◌then◌else◌, option_map, unwrap_or}
-use Rattle.luks_audit.specs.Tree.{empty_object, num, optional_text, with_fields}
+use Rattle.luks_audit.specs.Text.{optional_text, text_bytes}
+use Rattle.luks_audit.specs.Tree.{empty_object, num, with_fields}
 use Rattle.luks_audit.specs.declared.rows.TokenRow.{TokenRow}
+use Rattle.luks_audit.specs.declared.text.Text.{Text}
 use Rattle.serde_json.specs.Data.{Data}
 
 -- the text is one of the names
@@ -15,8 +17,8 @@ abbrev pub is_for : ℕ → TokenRow → Bool
 is_for slot token = is_among (decimal slot) token.keyslots
 
 -- the text is there, and is the expected one
-abbrev pub is_named : List ℕ → Option (List ℕ) → Bool
-is_named expected text = unwrap_or (option_map (bytes_eq expected) text) false
+abbrev pub is_named : List ℕ → Option Text → Bool
+is_named expected text = unwrap_or (option_map (λ t. bytes_eq expected (text_bytes t)) text) false
 
 -- the type of a token says that the slot's passphrase is a random key, which a TPM, a security key, a smart card or a
 -- server releases, or which was printed for recovery: the types of systemd-cryptenroll and of Clevis

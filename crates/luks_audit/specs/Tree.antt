@@ -25,8 +25,8 @@ num n = number (unsigned n)
 abbrev pub optional_num : Option ℕ → Data
 optional_num n = unwrap_or (option_map num n) null
 
-abbrev pub optional_text : Option (List ℕ) → Data
-optional_text text = unwrap_or (option_map string text) null
+abbrev pub optional_word : Option (List ℕ) → Data
+optional_word text = unwrap_or (option_map string text) null
 
 -- a value as it is stored, or null if it has a float: a float has more than one text
 unfoldable pub unless_float : Data → Data

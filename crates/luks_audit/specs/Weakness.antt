@@ -5,6 +5,7 @@ use Rattle.luks_kdf.specs.Hash.{hash_named}
 use Rattle.luks_kdf.specs.declared.hash.Hash.{Hash}
 use Rattle.luks_kdf.specs.declared.hash.Hash.TheVariants.{Sha1, Sha224, Sha256, Sha384, Sha512}
 use Rattle.luks_audit.specs.KeyLength.{cipher_key_len, is_known_short, is_short, least_key_len, own_key_len}
+use Rattle.luks_audit.specs.Text.{text_bytes, text_value}
 use Rattle.luks_audit.specs.Token.{has_random_key, is_named}
 use Rattle.luks_audit.specs.Tree.{empty_object, optional_num, with_fields}
 use Rattle.luks_audit.specs.declared.rows.CipherMode.{CipherMode}
@@ -13,6 +14,8 @@ use Rattle.luks_audit.specs.declared.rows.DigestRow.{DigestRow}
 use Rattle.luks_audit.specs.declared.rows.PayloadRow.{PayloadRow}
 use Rattle.luks_audit.specs.declared.rows.SlotRow.{SlotRow}
 use Rattle.luks_audit.specs.declared.rows.TokenRow.{TokenRow}
+use Rattle.luks_audit.specs.declared.text.Text.{Text}
+use Rattle.luks_audit.specs.declared.text.Text.TheVariants.{Unicode}
 use Rattle.luks_audit.specs.declared.weak_row.Part.{Part}
 use Rattle.luks_audit.specs.declared.weak_row.Part.TheVariants.{Segment, Slot, Digest}
 use Rattle.luks_audit.specs.declared.weak_row.Severity.{Severity}
@@ -59,15 +62,15 @@ least_digest_iterations = 1000
 -- ---- the tests
 
 -- the hash function that a text names, if it is known
-abbrev pub hash_in : Option (List ℕ) → Option Hash
-hash_in text = option_and_then hash_named text
+abbrev pub hash_in : Option Text → Option Hash
+hash_in text = option_and_then hash_named (option_map text_bytes text)
 
 -- the hash function that a text names is SHA-1
 abbrev pub is_sha1 : Option Hash → Bool
 is_sha1 (Some Sha1) = true
 is_sha1 _ = false
 
-abbrev pub names_sha1 : Option (List ℕ) → Bool
+abbrev pub names_sha1 : Option Text → Bool
 names_sha1 text = is_sha1 (hash_in text)
 
 -- PBKDF2 has fewer iterations than the least number
@@ -102,7 +105,7 @@ by_limit weakness part severity number limit = record {
 }
 
 -- a weakness by the name of a cipher or a hash function
-unfoldable pub by_name : Weakness → Part → Severity → Option (List ℕ) → WeakRow
+unfoldable pub by_name : Weakness → Part → Severity → Option Text → WeakRow
 by_name weakness part severity text = record {
   weakness = weakness;
   part = part;
@@ -117,7 +120,7 @@ abbrev pub found_if : Bool → WeakRow → List WeakRow
 found_if holds row = if holds then row ∷ [] else []
 
 -- by a cipher's mode
-unfoldable pub cipher_weaknesses : Part → CipherMode → Option (List ℕ) → List WeakRow
+unfoldable pub cipher_weaknesses : Part → CipherMode → Option Text → List WeakRow
 cipher_weaknesses part Null cipher = by_name NullCipher part High cipher ∷ []
 cipher_weaknesses part Ecb cipher = by_name EcbMode part High cipher ∷ []
 cipher_weaknesses part Cbc cipher = by_name CbcMode part Low cipher ∷ []
@@ -132,7 +135,7 @@ abbrev pub cost_severity : SlotRow → List TokenRow → Severity
 cost_severity slot tokens = if has_random_key slot.number tokens then Low else High
 
 -- the hash function of the key derivation, or of the stripes, that is SHA-1
-abbrev pub sha1_of : SlotRow → Option (List ℕ)
+abbrev pub sha1_of : SlotRow → Option Text
 sha1_of slot = if names_sha1 slot.hash then slot.hash else slot.af_hash
 
 -- of how a key slot derives its key
@@ -173,7 +176,7 @@ segment_key_len row = cipher_key_len row.cipher row.integrity row.key_bytes
 -- of the segment, and that a segment of type `linear` is not encrypted
 unfoldable pub segment_weaknesses : PayloadRow → List WeakRow
 segment_weaknesses row =
-    found_if row.has_linear (by_name NullCipher Segment High (Some (codes "linear")))
+    found_if row.has_linear (by_name NullCipher Segment High (Some (Unicode (codes "linear"))))
     ++ cipher_weaknesses Segment row.mode row.cipher
     ++ found_if (is_known_short row.mode (segment_key_len row)) (key_weakness Segment row.mode (segment_key_len row))
 
@@ -218,7 +221,7 @@ part_text (Digest number) = codes "digest " ++ decimal number
 
 -- the name or the number that is weak
 abbrev pub weak_by : WeakRow → Data
-weak_by row = unwrap_or (option_map string row.text) (optional_num row.number)
+weak_by row = unwrap_or (option_map text_value row.text) (optional_num row.number)
 
 unfoldable pub weak_value : WeakRow → Data
 weak_value row = with_fields (

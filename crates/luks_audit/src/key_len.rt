@@ -68,7 +68,7 @@ pub(crate) fn segment_key_len(row: &PayloadRow) -> Option<u64>
     let Some(cipher) = &row.cipher else {
         return None;
     };
-    let tags = tag_key_len(cipher.as_str().as_bytes(), &row.integrity);
+    let tags = tag_key_len(cipher.as_bytes(), &row.integrity);
     match row.key_bytes {
         Some(bytes) => Some(bytes.saturating_sub(tags)),
         None => None,

@@ -3,13 +3,11 @@
 ghost use Rattle.std.specs.Prelude.{◌≡◌, ◌*◌, IfOk};
 ghost use Rattle.luks_audit.specs.Rows1.{cipher1_of, digest1_row, header1_row, cipher_mode1};
 ghost use Rattle.luks_audit.specs.Rows1.{payload1_row, slot1_row};
-ghost use Rattle.luks_report.specs.DumpLine.{escaped};
 ghost use Rattle.luks_format.specs.Slot1.{is_disabled};
 
 use crate::cipher::mode_of;
 use crate::rows::{CipherMode, DigestRow, HeaderRow, Length, PayloadRow, SlotRow};
-use crate::text::{Text, escape};
-use crate::verdict::{is_kind_usable, kind_text, reason_text};
+use crate::text::Text;
 use luks_format::rule::key_material_len;
 use luks_format::slot::VerdictKind;
 use luks_header::header::{Header1, SlotState, StoredSlot};
@@ -20,14 +18,14 @@ use std::alloc::{AllocError, Global};
 pub(crate) fn header_row(alloc: Global, header: &Header1) -> Result<HeaderRow, AllocError>
     ensures { IfOk result (λ row. row ≡ header1_row header.now) }
 {
-    let uuid = Text::escaped(alloc, header.uuid.as_bytes())?;
+    let uuid = header.uuid.as_bytes().to_vec(alloc)?;
     Ok(HeaderRow {
         version: 1,
-        uuid,
+        uuid: Text::fixed(uuid),
         label: None,
         subsystem: None,
-        header: None,
-        other_header: None,
+        role: None,
+        finding: None,
         seqid: None,
         header_size: None,
         checksum_hash: None,
@@ -39,11 +37,10 @@ pub(crate) fn header_row(alloc: Global, header: &Header1) -> Result<HeaderRow, A
 fn cipher(alloc: Global, header: &Header1) -> Result<Text, AllocError>
     ensures { IfOk result (λ text. text ≡ cipher1_of header.now) }
 {
-    let mut text = String::new(alloc);
-    escape(alloc, &mut text, header.cipher_name.as_bytes())?;
-    text.push_str("-")?;
-    escape(alloc, &mut text, header.cipher_mode.as_bytes())?;
-    Ok(Text::new(text))
+    let mut cipher = header.cipher_name.as_bytes().to_vec(alloc)?;
+    cipher.push(b'-')?;
+    cipher.extend_from_slice(header.cipher_mode.as_bytes())?;
+    Ok(Text::fixed(cipher))
 }
 
 // How the cipher encrypts sectors.
@@ -94,9 +91,9 @@ fn is_disabled(state: SlotState) -> bool
 
 // The hash function of the header.
 fn hash(alloc: Global, header: &Header1) -> Result<Text, AllocError>
-    ensures { IfOk result (λ text. text ≡ escaped header.now.hash_spec) }
+    ensures { IfOk result (λ text. text ≡ Text.Fixed header.now.hash_spec) }
 {
-    Text::escaped(alloc, header.hash_spec.as_bytes())
+    Ok(Text::fixed(header.hash_spec.as_bytes().to_vec(alloc)?))
 }
 
 /// A key slot, with its verdict.
@@ -106,23 +103,21 @@ pub(crate) fn slot_row(
     header: &Header1,
     slot: &StoredSlot,
     number: u8,
-    kind: VerdictKind,
+    verdict: VerdictKind,
     library_can_try: bool,
 ) -> Result<SlotRow, AllocError>
     ensures { IfOk result (λ row. row ≡
-        slot1_row header.now slot.now number kind library_can_try) }
+        slot1_row header.now slot.now number verdict library_can_try) }
 {
     Ok(SlotRow {
         number,
-        state: Text::copied(alloc, kind_text(kind))?,
-        reason: Text::optional(alloc, reason_text(kind))?,
-        can_try: is_kind_usable(kind),
+        verdict,
         library_can_try,
         priority: Some(1),
         key_bytes: Some(u64::from(header.key_bytes)),
         kdf: Some(Text::copied(alloc, "pbkdf2")?),
         hash: Some(hash(alloc, header)?),
-        salt: Some(Text::digits(alloc, &slot.salt)?),
+        salt: Some(Text::binary(slot.salt.to_vec(alloc)?)),
         iterations: Some(u64::from(slot.iterations)),
         time: None,
         memory: None,
@@ -147,9 +142,9 @@ pub(crate) fn digest_row(alloc: Global, header: &Header1) -> Result<DigestRow, A
         number: 0,
         kind: Some(Text::copied(alloc, "pbkdf2")?),
         hash: Some(hash(alloc, header)?),
-        salt: Some(Text::digits(alloc, &header.digest_salt)?),
+        salt: Some(Text::binary(header.digest_salt.to_vec(alloc)?)),
         iterations: Some(u64::from(header.digest_iterations)),
-        digest: Some(Text::digits(alloc, &header.digest)?),
+        digest: Some(Text::binary(header.digest.to_vec(alloc)?)),
         bytes: Some(20),
         keyslots: None,
         segments: None,

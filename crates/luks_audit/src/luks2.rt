@@ -1,13 +1,11 @@
 //! The fields of a LUKS2 header (LUKS2 On-Disk Format Specification 1.1, sections 2.1 and 3).
 
 ghost use Rattle.std.specs.Prelude.{◌≡◌, IfOk, List, codes, length, option_map, ℕ};
-ghost use Rattle.hex.specs.Hex.{encode_lower};
 ghost use Rattle.luks_audit.specs.Rows2.{any_linear, digest2_row, flags_of, has_linear};
 ghost use Rattle.luks_audit.specs.Rows2.{header2_row, in_segment0, key_size_at, key_size_in};
-ghost use Rattle.luks_audit.specs.Rows2.{length_in, other_header_of, payload2_row, priority2_of};
-ghost use Rattle.luks_audit.specs.Rows2.{requirements_of, segment_flags_of, slot2_row};
+ghost use Rattle.luks_audit.specs.Rows2.{length_in, payload2_row, priority2_of};
+ghost use Rattle.luks_audit.specs.Rows2.{requirements_of, segment_flags_of, slot2_row, nested_text};
 ghost use Rattle.luks_audit.specs.Rows2.{token2_row, volume_key_size};
-ghost use Rattle.luks_report.specs.Dump2.{role_text};
 ghost use Rattle.luks2_json.specs.Member.{base64_member, decimal_member, in_member};
 ghost use Rattle.luks2_json.specs.Member.{integer_member, string_member};
 ghost use Rattle.serde_json.specs.View.{members_view, view as data_of};
@@ -17,10 +15,9 @@ use crate::rows::{DigestRow, HeaderRow, Length, PayloadRow, SlotRow, TokenRow};
 use crate::shape;
 use crate::text::Text;
 use crate::tree::Tree;
-use crate::verdict::{is_kind_usable, kind_text, reason_text};
 use luks_format::rule::MAX_SLOTS;
 use luks_format::slot::VerdictKind;
-use luks_header::header::{Header2, HeaderRole, PairFinding};
+use luks_header::header::Header2;
 use luks2_json::list::{Names, strings_at};
 use luks2_json::member::{
     base64_len, base64_member, decimal_member, integer_member, is_type, nested_decimal,
@@ -32,28 +29,6 @@ use std::alloc::{AllocError, Global};
 
 // ---- the binary header
 
-// Which of the two headers it is.
-fn role_text(role: HeaderRole) -> &'static str
-    ensures { result.now ≡ role_text role }
-{
-    match role {
-        HeaderRole::Primary => "primary",
-        HeaderRole::Secondary => "secondary",
-    }
-}
-
-// What is wrong with the header that is not the listed one.
-fn other_header(finding: Option<PairFinding>) -> Option<&'static str>
-    ensures { option_map (λ t. t.now) result ≡ other_header_of finding }
-{
-    match finding {
-        None => None,
-        Some(PairFinding::PrimaryNotValid) => Some("not valid"),
-        Some(PairFinding::SecondaryNotValid) => Some("not valid"),
-        Some(PairFinding::SequencesDiffer) => Some("sequence number differs"),
-    }
-}
-
 /// The binary header.
 #[tactic(auto, unfolding(crate::specs::Rows2::header2_row))]
 pub(crate) fn header_row(alloc: Global, header: &Header2) -> Result<HeaderRow, AllocError>
@@ -61,15 +36,15 @@ pub(crate) fn header_row(alloc: Global, header: &Header2) -> Result<HeaderRow, A
 {
     Ok(HeaderRow {
         version: 2,
-        uuid: Text::escaped(alloc, header.uuid.as_bytes())?,
-        label: Some(Text::escaped(alloc, header.label.as_bytes())?),
-        subsystem: Some(Text::escaped(alloc, header.subsystem.as_bytes())?),
-        header: Some(Text::copied(alloc, role_text(header.role))?),
-        other_header: Text::optional(alloc, other_header(header.finding))?,
+        uuid: Text::fixed(header.uuid.as_bytes().to_vec(alloc)?),
+        label: Some(Text::fixed(header.label.as_bytes().to_vec(alloc)?)),
+        subsystem: Some(Text::fixed(header.subsystem.as_bytes().to_vec(alloc)?)),
+        role: Some(header.role),
+        finding: header.finding,
         seqid: Some(header.sequence),
         header_size: Some(u64::from(header.size)),
-        checksum_hash: Some(Text::copied(alloc, header.hash.name())?),
-        salt: Some(Text::digits(alloc, &header.salt)?),
+        checksum_hash: Some(header.hash),
+        salt: Some(Text::binary(header.salt.to_vec(alloc)?)),
     })
 }
 
@@ -250,37 +225,36 @@ fn priority(slot: &Value) -> Option<u64>
     integer_member(slot, "priority")
 }
 
-// The bytes that are under this name in base64, as hexadecimal digits.
-fn digits(alloc: Global, owner: &Value, name: &str) -> Result<Option<Text>, AllocError>
-    ensures { IfOk result (λ text. text
-        ≡ option_map encode_lower (base64_member name.now (data_of owner.now))) }
+// The bytes that are under this name in base64.
+fn bytes(alloc: Global, owner: &Value, name: &str) -> Result<Option<Text>, AllocError>
+    ensures { IfOk result (λ bytes. bytes
+        ≡ option_map Text.Binary (base64_member name.now (data_of owner.now))) }
 {
     match base64_member(alloc, owner, name)? {
-        Some(bytes) => Ok(Some(Text::digits(alloc, bytes.as_slice())?)),
+        Some(bytes) => Ok(Some(Text::binary(bytes))),
         None => Ok(None),
     }
 }
 
 // The salt of the key derivation.
 fn salt(alloc: Global, slot: &Value) -> Result<Option<Text>, AllocError>
-    ensures { IfOk result (λ text. text ≡ option_map encode_lower
+    ensures { IfOk result (λ salt. salt ≡ option_map Text.Binary
         (in_member (codes "kdf") (base64_member (codes "salt")) (data_of slot.now))) }
 {
     match slot.get("kdf") {
-        Some(kdf) => digits(alloc, kdf, "salt"),
+        Some(kdf) => bytes(alloc, kdf, "salt"),
         None => Ok(None),
     }
 }
 
 // The string under `name` in the object under `object`.
-fn text_in(
+fn nested_text(
     alloc: Global,
     slot: &Value,
     object: &str,
     name: &str,
 ) -> Result<Option<Text>, AllocError>
-    ensures { IfOk result (λ text. text
-        ≡ in_member object.now (string_member name.now) (data_of slot.now)) }
+    ensures { IfOk result (λ text. text ≡ nested_text object.now name.now (data_of slot.now)) }
 {
     Text::optional(alloc, nested_string(slot, object, name))
 }
@@ -291,30 +265,28 @@ pub(crate) fn slot_row(
     alloc: Global,
     slot: &Value,
     number: u8,
-    kind: VerdictKind,
+    verdict: VerdictKind,
     library_can_try: bool,
 ) -> Result<SlotRow, AllocError>
     ensures { IfOk result (λ row. row
-        ≡ slot2_row (data_of slot.now) number kind library_can_try) }
+        ≡ slot2_row (data_of slot.now) number verdict library_can_try) }
 {
     Ok(SlotRow {
         number,
-        state: Text::copied(alloc, kind_text(kind))?,
-        reason: Text::optional(alloc, reason_text(kind))?,
-        can_try: is_kind_usable(kind),
+        verdict,
         library_can_try,
         priority: priority(slot),
         key_bytes: integer_member(slot, "key_size"),
-        kdf: text_in(alloc, slot, "kdf", "type")?,
-        hash: text_in(alloc, slot, "kdf", "hash")?,
+        kdf: nested_text(alloc, slot, "kdf", "type")?,
+        hash: nested_text(alloc, slot, "kdf", "hash")?,
         salt: salt(alloc, slot)?,
         iterations: nested_integer(slot, "kdf", "iterations"),
         time: nested_integer(slot, "kdf", "time"),
         memory: nested_integer(slot, "kdf", "memory"),
         threads: nested_integer(slot, "kdf", "cpus"),
-        af_hash: text_in(alloc, slot, "af", "hash")?,
+        af_hash: nested_text(alloc, slot, "af", "hash")?,
         stripes: nested_integer(slot, "af", "stripes"),
-        area_cipher: text_in(alloc, slot, "area", "encryption")?,
+        area_cipher: nested_text(alloc, slot, "area", "encryption")?,
         area_key_bytes: nested_integer(slot, "area", "key_size"),
         area_offset: nested_decimal(slot, "area", "offset"),
         area_size: nested_decimal(slot, "area", "size"),
@@ -343,9 +315,9 @@ pub(crate) fn digest_row(alloc: Global, digest: &Value, number: u8) -> Result<Di
         number,
         kind: Text::optional(alloc, string_member(digest, "type"))?,
         hash: Text::optional(alloc, string_member(digest, "hash"))?,
-        salt: digits(alloc, digest, "salt")?,
+        salt: bytes(alloc, digest, "salt")?,
         iterations: integer_member(digest, "iterations"),
-        digest: digits(alloc, digest, "digest")?,
+        digest: bytes(alloc, digest, "digest")?,
         bytes: digest_len(digest),
         keyslots: Some(strings_at(alloc, digest, "keyslots")?),
         segments: Some(strings_at(alloc, digest, "segments")?),

@@ -1,8 +1,9 @@
 //! Members of the objects that are printed, by the types of their values.
 
-ghost use Rattle.std.specs.Prelude.{◌≡◌, ◌++◌, IfOk, OnOk, map, string_bytes};
+ghost use Rattle.std.specs.Prelude.{◌≡◌, ◌++◌, IfOk, OnOk, map, option_map, string_bytes};
 ghost use Rattle.luks_audit.specs.Table.{length_value, names_value};
-ghost use Rattle.luks_audit.specs.Tree.{array_of, num, optional_num, optional_text};
+ghost use Rattle.luks_audit.specs.Text.{optional_text};
+ghost use Rattle.luks_audit.specs.Tree.{array_of, num, optional_num, optional_word};
 ghost use Rattle.luks_audit.specs.Tree.{with_member};
 ghost use Rattle.serde_json.specs.Data.{string};
 
@@ -51,9 +52,23 @@ impl Object {
             (self.new ≡ with_member name.now (optional_text text.now) self.old) }
     {
         match text {
-            Some(text) => self.push_text(alloc, name, text.as_str()),
+            Some(text) => self.push(alloc, name, text.to_tree(alloc)?),
             None => self.push(alloc, name, Tree::null()),
         }
+    }
+
+    /// Adds a word of ours, or null.
+    pub fn push_word(
+        &mut self,
+        alloc: Global,
+        name: &str,
+        word: Option<&str>,
+    ) -> Result<(), AllocError>
+        ensures { OnOk result (self.new
+            ≡ with_member name.now (optional_word (option_map (λ t. t.now) word.entry)) self.old) }
+    {
+        let tree = Tree::optional_word(alloc, word)?;
+        self.push(alloc, name, tree)
     }
 
     /// Adds names, or an empty array.

@@ -1,8 +1,11 @@
-//! The fields of a header of either format, as they are listed. A field is `None` if the header
+//! The fields of a header of either format, as the header has them. A field is `None` if the header
 //! does not have it, or has it in a form that is not the standard's.
 
 use crate::text::Text;
 use crate::tree::Tree;
+use luks_format::slot::VerdictKind;
+use luks_header::header::{HeaderRole, PairFinding};
+use luks_kdf::Hash;
 use luks2_json::list::Names;
 
 /// The length of a segment.
@@ -43,16 +46,16 @@ pub struct HeaderRow {
     /// The volume's subsystem.
     pub subsystem: Option<Text>,
     /// Which of the two headers of LUKS2 it is.
-    pub header: Option<Text>,
-    /// What is wrong with the other one.
-    pub other_header: Option<Text>,
+    pub role: Option<HeaderRole>,
+    /// What is wrong with the two.
+    pub finding: Option<PairFinding>,
     /// A number that increases with each change of the header.
     pub seqid: Option<u64>,
     /// The length of the header and its JSON area in bytes.
     pub header_size: Option<u64>,
     /// The hash function of the checksum.
-    pub checksum_hash: Option<Text>,
-    /// The salt, in hexadecimal digits.
+    pub checksum_hash: Option<Hash>,
+    /// The salt.
     pub salt: Option<Text>,
 }
 
@@ -93,12 +96,8 @@ pub struct PayloadRow {
 pub struct SlotRow {
     /// Its number.
     pub number: u8,
-    /// Whether luksrd can try it.
-    pub state: Text,
-    /// Why it is skipped.
-    pub reason: Option<Text>,
-    /// Whether luksrd can try it.
-    pub can_try: bool,
+    /// Whether luksrd can try it, or why it is skipped.
+    pub verdict: VerdictKind,
     /// Whether the library can try it, by its default limits.
     pub library_can_try: bool,
     /// Its priority.
@@ -109,7 +108,7 @@ pub struct SlotRow {
     pub kdf: Option<Text>,
     /// The hash function of the key derivation.
     pub hash: Option<Text>,
-    /// The salt of the key derivation, in hexadecimal digits.
+    /// The salt of the key derivation.
     pub salt: Option<Text>,
     /// The iterations of PBKDF2.
     pub iterations: Option<u64>,
@@ -146,11 +145,11 @@ pub struct DigestRow {
     pub kind: Option<Text>,
     /// Its hash function.
     pub hash: Option<Text>,
-    /// Its salt, in hexadecimal digits.
+    /// Its salt.
     pub salt: Option<Text>,
     /// Its iterations.
     pub iterations: Option<u64>,
-    /// The digest, in hexadecimal digits.
+    /// The digest.
     pub digest: Option<Text>,
     /// The length of the digest in bytes.
     pub bytes: Option<u64>,

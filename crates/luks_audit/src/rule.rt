@@ -57,7 +57,7 @@ pub(crate) fn hash_in(text: &Option<Text>) -> Option<Hash>
     ensures { result ≡ hash_in text.now }
 {
     match text {
-        Some(text) => Hash::from_name(text.as_str()),
+        Some(text) => Hash::from_bytes(text.as_bytes()),
         None => None,
     }
 }

@@ -1,8 +1,11 @@
 //! The names of the members of each object.
 
-ghost use Rattle.std.specs.Prelude.{◌≡◌, IfOk, OnOk, map};
+ghost use Rattle.std.specs.Prelude.{◌≡◌, IfOk, OnOk, map, option_map};
+ghost use Rattle.luks_kdf.specs.Hash.{hash_name};
+ghost use Rattle.luks_report.specs.Dump2.{role_text};
 ghost use Rattle.luks_audit.specs.Table.{area_fields, binary_fields, digest_value, judged_fields};
-ghost use Rattle.luks_audit.specs.Table.{key_fields, list_fields, payload_fields, place_fields};
+ghost use Rattle.luks_audit.specs.Table.{key_fields, list_fields, other_header_of};
+ghost use Rattle.luks_audit.specs.Table.{payload_fields, place_fields};
 ghost use Rattle.luks_audit.specs.Table.{program_fields, segment_fields, slot_value, token_value};
 ghost use Rattle.luks_audit.specs.Table.{verdict_fields, volume_fields};
 ghost use Rattle.luks_audit.specs.Tree.{with_fields};
@@ -12,6 +15,9 @@ use crate::program::{POLICY, VERSION};
 use crate::rows::{DigestRow, HeaderRow, PayloadRow, SlotRow, TokenRow};
 use crate::token::slot_tokens;
 use crate::tree::{Array, Object, Tree};
+use crate::verdict::{is_kind_usable, kind_text, reason_text};
+use luks_header::header::{HeaderRole, PairFinding};
+use luks_kdf::Hash;
 use std::alloc::{AllocError, Global};
 
 /// Adds which program printed the line, and by which policy.
@@ -37,6 +43,48 @@ pub(crate) fn push_place(
     fields.push_number(alloc, "offset", offset)
 }
 
+// Which of the two headers of LUKS2 it is.
+fn role_text(role: HeaderRole) -> &'static str
+    ensures { result.now ≡ role_text role }
+{
+    match role {
+        HeaderRole::Primary => "primary",
+        HeaderRole::Secondary => "secondary",
+    }
+}
+
+// Which of them is listed.
+fn listed_header(role: Option<HeaderRole>) -> Option<&'static str>
+    ensures { option_map (λ t. t.now) result ≡ option_map role_text role }
+{
+    match role {
+        Some(role) => Some(role_text(role)),
+        None => None,
+    }
+}
+
+// The hash function of the checksum.
+fn checksum_hash(hash: Option<Hash>) -> Option<&'static str>
+    ensures { option_map (λ t. t.now) result ≡ option_map hash_name hash }
+{
+    match hash {
+        Some(hash) => Some(hash.name()),
+        None => None,
+    }
+}
+
+// What is wrong with the header that is not the listed one.
+fn other_header(finding: Option<PairFinding>) -> Option<&'static str>
+    ensures { option_map (λ t. t.now) result ≡ other_header_of finding }
+{
+    match finding {
+        None => None,
+        Some(PairFinding::PrimaryNotValid) => Some("not valid"),
+        Some(PairFinding::SecondaryNotValid) => Some("not valid"),
+        Some(PairFinding::SequencesDiffer) => Some("sequence number differs"),
+    }
+}
+
 /// Adds the version, the texts, and which header it is.
 #[tactic(auto, unfolding(crate::specs::Table::volume_fields))]
 pub(crate) fn push_volume(
@@ -47,11 +95,11 @@ pub(crate) fn push_volume(
     ensures { OnOk result (fields.new ≡ with_fields (volume_fields row.now) fields.old) }
 {
     fields.push_number(alloc, "version", row.version)?;
-    fields.push_text(alloc, "uuid", row.uuid.as_str())?;
+    fields.push(alloc, "uuid", row.uuid.to_tree(alloc)?)?;
     fields.push_optional_text(alloc, "label", &row.label)?;
     fields.push_optional_text(alloc, "subsystem", &row.subsystem)?;
-    fields.push_optional_text(alloc, "header", &row.header)?;
-    fields.push_optional_text(alloc, "other_header", &row.other_header)
+    fields.push_word(alloc, "header", listed_header(row.role))?;
+    fields.push_word(alloc, "other_header", other_header(row.finding))
 }
 
 /// Adds the number of its change, its length, and how its checksum is computed.
@@ -65,7 +113,7 @@ pub(crate) fn push_binary(
 {
     fields.push_optional_number(alloc, "seqid", row.seqid)?;
     fields.push_optional_number(alloc, "header_size", row.header_size)?;
-    fields.push_optional_text(alloc, "checksum_hash", &row.checksum_hash)?;
+    fields.push_word(alloc, "checksum_hash", checksum_hash(row.checksum_hash))?;
     fields.push_optional_text(alloc, "salt", &row.salt)
 }
 
@@ -108,9 +156,9 @@ fn push_verdict(alloc: Global, fields: &mut Object, row: &SlotRow) -> Result<(),
     ensures { OnOk result (fields.new ≡ with_fields (verdict_fields row.now) fields.old) }
 {
     fields.push_number(alloc, "number", u64::from(row.number))?;
-    fields.push_text(alloc, "state", row.state.as_str())?;
-    fields.push_optional_text(alloc, "reason", &row.reason)?;
-    fields.push(alloc, "can_try", Tree::boolean(row.can_try))?;
+    fields.push_text(alloc, "state", kind_text(row.verdict))?;
+    fields.push_word(alloc, "reason", reason_text(row.verdict))?;
+    fields.push(alloc, "can_try", Tree::boolean(is_kind_usable(row.verdict)))?;
     fields.push(alloc, "library_can_try", Tree::boolean(row.library_can_try))
 }
 

@@ -1,55 +1,79 @@
-//! Texts as they are printed.
+//! Texts and bytes of a header, as it has them.
 
 ghost use Rattle.std.specs.Prelude.{◌≡◌, ◌++◌, IfOk, OnOk, option_map, string_bytes};
-ghost use Rattle.hex.specs.Hex.{encode_lower};
+ghost use Rattle.luks_audit.specs.Text.{text_bytes, text_value};
 ghost use Rattle.luks_report.specs.DumpLine.{escaped, escaped_byte};
 
+use crate::tree::Tree;
 use std::alloc::{AllocError, Global};
 use std::marker::Model;
 
-/// A text as it is printed. A clause sees its bytes.
+/// UTF-8. A clause sees the bytes.
 #[derive(Drop)]
-pub struct Text {
+pub struct Utf8 {
     text: String,
 }
 
-impl Model for Text {
+impl Model for Utf8 {
     ghost use Rattle.std.specs.Prelude.{List, string_bytes, ℕ};
 
     ghost Value = { List ℕ };
 
-    ghost view = { λ text. string_bytes text.text };
+    ghost view = { λ utf8. string_bytes utf8.text };
+}
+
+/// Any bytes. A clause sees them.
+#[derive(Drop)]
+pub struct Bytes {
+    bytes: Vec<u8>,
+}
+
+impl Model for Bytes {
+    ghost use Rattle.std.specs.Prelude.{List, ℕ};
+
+    ghost Value = { List ℕ };
+
+    ghost view = { λ bytes. bytes.bytes.items };
+}
+
+/// A text, or bytes.
+#[derive(Drop)]
+pub enum Text {
+    /// The text in a field of a binary header, which need not be UTF-8.
+    Fixed(Bytes),
+    /// A text in the JSON area, or a word of ours.
+    Unicode(Utf8),
+    /// Bytes that are no text.
+    Binary(Bytes),
 }
 
 impl Text {
-    /// This text.
-    pub fn new(text: String) -> Text
-        ensures { result ≡ string_bytes text }
+    /// The text in a field of a binary header.
+    pub fn fixed(bytes: Vec<u8>) -> Text
+        ensures { result ≡ Text.Fixed bytes.items }
     {
-        Text { text }
+        Text::Fixed(Bytes { bytes })
     }
 
-    /// A text of a binary header, which need not be UTF-8, escaped.
-    pub fn escaped(alloc: Global, text: &[u8]) -> Result<Text, AllocError>
-        ensures { IfOk result (λ made. made ≡ escaped text.now) }
+    /// Bytes that are no text.
+    pub fn binary(bytes: Vec<u8>) -> Text
+        ensures { result ≡ Text.Binary bytes.items }
     {
-        let mut printed = String::new(alloc);
-        escape(alloc, &mut printed, text)?;
-        Ok(Text::new(printed))
+        Text::Binary(Bytes { bytes })
     }
 
     /// A copy of this text.
     pub fn copied(alloc: Global, text: &str) -> Result<Text, AllocError>
-        ensures { IfOk result (λ made. made ≡ text.now) }
+        ensures { IfOk result (λ made. made ≡ Text.Unicode text.now) }
     {
-        Ok(Text {
-            text: String::from_str(alloc, text)?,
-        })
+        let text = String::from_str(alloc, text)?;
+        Ok(Text::Unicode(Utf8 { text }))
     }
 
     /// A copy of this text, if there is one.
     pub fn optional(alloc: Global, text: Option<&str>) -> Result<Option<Text>, AllocError>
-        ensures { IfOk result (λ made. made ≡ option_map (λ t. t.now) text.entry) }
+        ensures { IfOk result (λ made.
+            made ≡ option_map Text.Unicode (option_map (λ t. t.now) text.entry)) }
     {
         match text {
             Some(text) => Ok(Some(Text::copied(alloc, text)?)),
@@ -57,27 +81,53 @@ impl Text {
         }
     }
 
-    /// These bytes as hexadecimal digits.
-    pub fn digits(alloc: Global, bytes: &[u8]) -> Result<Text, AllocError>
-        ensures { IfOk result (λ made. made ≡ encode_lower bytes.now) }
+    /// A copy.
+    pub fn copy(&self, alloc: Global) -> Result<Text, AllocError>
+        ensures { IfOk result (λ made. made ≡ self.now) }
     {
-        Ok(Text {
-            text: hex::encode(alloc, bytes)?,
-        })
+        match self {
+            Text::Fixed(bytes) => Ok(Text::fixed(bytes.bytes.clone()?)),
+            Text::Unicode(utf8) => Text::copied(alloc, utf8.text.as_str()),
+            Text::Binary(bytes) => Ok(Text::binary(bytes.bytes.clone()?)),
+        }
     }
 
-    /// The text.
-    pub fn as_str(&self) -> &str
-        ensures { result.now ≡ self.now }
+    /// The bytes.
+    pub fn as_bytes(&self) -> &[u8]
+        ensures { result.now ≡ text_bytes self.now }
     {
-        self.text.as_str()
+        match self {
+            Text::Fixed(bytes) => bytes.bytes.as_slice(),
+            Text::Unicode(utf8) => utf8.text.as_bytes(),
+            Text::Binary(bytes) => bytes.bytes.as_slice(),
+        }
+    }
+
+    /// The text as it is printed: one that need not be UTF-8 is escaped, and bytes are hexadecimal
+    /// digits.
+    pub fn to_tree(&self, alloc: Global) -> Result<Tree, AllocError>
+        ensures { IfOk result (λ tree. tree ≡ text_value self.now) }
+    {
+        match self {
+            Text::Fixed(bytes) => Ok(Tree::text(escaped(alloc, bytes.bytes.as_slice())?)),
+            Text::Unicode(utf8) => Tree::copied(alloc, utf8.text.as_str()),
+            Text::Binary(bytes) => Ok(Tree::text(hex::encode(alloc, bytes.bytes.as_slice())?)),
+        }
     }
 }
 
-/// Adds a text of a binary header: all bytes but visible ASCII and spaces as `\xHH`, and so the
-/// backslash.
+// A text of a binary header: all bytes but visible ASCII and spaces as `\xHH`, and so the backslash.
+fn escaped(alloc: Global, text: &[u8]) -> Result<String, AllocError>
+    ensures { IfOk result (λ printed. string_bytes printed ≡ escaped text.now) }
+{
+    let mut printed = String::new(alloc);
+    escape(alloc, &mut printed, text)?;
+    Ok(printed)
+}
+
+// Adds such a text.
 #[tactic(auto, unfolding(luks_report::specs::DumpLine::escaped))]
-pub(crate) fn escape(alloc: Global, printed: &mut String, text: &[u8]) -> Result<(), AllocError>
+fn escape(alloc: Global, printed: &mut String, text: &[u8]) -> Result<(), AllocError>
     ensures { OnOk result
         (string_bytes printed.new ≡ string_bytes printed.old ++ escaped text.now) }
 {

@@ -36,7 +36,7 @@ pub(crate) fn is_named(text: &Option<Text>, expected: &str) -> bool
     ensures { result ≡ is_named expected.now text.now }
 {
     match text {
-        Some(text) => expected == text.as_str(),
+        Some(text) => expected.as_bytes() == text.as_bytes(),
         None => false,
     }
 }

@@ -3,7 +3,7 @@
 ghost use Rattle.std.specs.Prelude.{◌≡◌, ◌++◌, ◌∷◌, [], IfOk, OnOk, false, length, option_map};
 ghost use Rattle.std.specs.Prelude.{string_bytes};
 ghost use Rattle.luks_audit.specs.Tree.{array_of, empty_object, num, optional_num};
-ghost use Rattle.luks_audit.specs.Tree.{optional_text, unless_float, with_member};
+ghost use Rattle.luks_audit.specs.Tree.{optional_word, unless_float, with_member};
 ghost use Rattle.serde_json.specs.Data.{boolean, null, string};
 ghost use Rattle.serde_json.specs.View.{view as data_of};
 ghost use Rattle.serde_json.specs.Written.{compact_text, has_float};
@@ -88,9 +88,9 @@ impl Tree {
     }
 
     /// A copy of a text, or null.
-    pub fn optional_text(alloc: Global, text: Option<&str>) -> Result<Tree, AllocError>
+    pub fn optional_word(alloc: Global, text: Option<&str>) -> Result<Tree, AllocError>
         ensures { IfOk result (λ tree.
-            tree ≡ optional_text (option_map (λ t. t.now) text.entry)) }
+            tree ≡ optional_word (option_map (λ t. t.now) text.entry)) }
     {
         match text {
             Some(text) => Tree::copied(alloc, text),

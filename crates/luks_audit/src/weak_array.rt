@@ -23,7 +23,7 @@ fn weak_by(alloc: Global, row: &WeakRow) -> Result<Tree, AllocError>
     ensures { IfOk result (λ tree. tree ≡ weak_by row.now) }
 {
     match &row.text {
-        Some(text) => Tree::copied(alloc, text.as_str()),
+        Some(text) => text.to_tree(alloc),
         None => Ok(Tree::optional_number(row.number)),
     }
 }

@@ -44,7 +44,7 @@ fn copied(alloc: Global, text: &Option<Text>) -> Result<Option<Text>, AllocError
     ensures { IfOk result (λ made. made ≡ text.now) }
 {
     match text {
-        Some(text) => Ok(Some(Text::copied(alloc, text.as_str())?)),
+        Some(text) => Ok(Some(text.copy(alloc)?)),
         None => Ok(None),
     }
 }
@@ -249,7 +249,8 @@ fn push_digest(alloc: Global, weak: &mut Vec<WeakRow>, digest: &DigestRow) -> Re
 // Adds that a segment is not encrypted, if one is not.
 fn push_linear(alloc: Global, weak: &mut Vec<WeakRow>, holds: bool) -> Result<(), AllocError>
     ensures { OnOk result (weak.new.items ≡ weak.old.items ++ found_if holds
-        (by_name Weakness.NullCipher Part.Segment Severity.High (Some (codes "linear")))) }
+        (by_name Weakness.NullCipher Part.Segment Severity.High
+        (Some (Text.Unicode (codes "linear"))))) }
 {
     if holds {
         let text = Some(Text::copied(alloc, "linear")?);

@@ -6,10 +6,12 @@ unfolding verdict_fields
 returns c = simp (
   c.in_ok-push_number.ensures,
   c.in_ok-push_text.ensures,
-  c.in_ok-push_optional_text.ensures,
+  c.in_ok-push_word.ensures,
   c.in_ok-push.ensures,
   c.from.ensures,
+  c.kind_text.ensures,
+  c.reason_text.ensures,
+  c.is_kind_usable.ensures,
   c.boolean.ensures,
   c.boolean-2.ensures,
-  c.as_str.ensures,
 ) at c.push-2.ensures
