@@ -1,5 +1,6 @@
 -- The lines that are printed: an object as JSON, or its members in columns with tabs between them.
-use Rattle.std.specs.Prelude.{ℕ, ◌++◌, List, [], ◌∷◌, Option, Some, None, codes, flat_map}
+use Rattle.std.specs.Prelude.{ℕ, ◌++◌, ◌==◌, List, [], ◌∷◌, Option, Some, None, codes, flat_map}
+use Rattle.std.specs.List.{slice_split}
 use Rattle.json.specs.Print.{escape}
 use Rattle.luks_audit.specs.Marks.{marks_escaped}
 use Rattle.luks_audit.specs.Table.{program_fields}
@@ -10,15 +11,16 @@ use Rattle.serde_json.specs.Data.{Data, null, string, boolean, number, array, ob
 use Rattle.serde_json.specs.Find.{get}
 use Rattle.serde_json.specs.Written.{compact_text}
 
--- the columns after the first one, which is the file
-abbrev pub columns : List (List ℕ)
+-- the names of the columns after the first one, which is the file, with tabs between them
+unfoldable pub columns : List ℕ
 columns =
-    codes "offset" ∷ codes "error" ∷ codes "version" ∷ codes "uuid" ∷ codes "label" ∷ codes "subsystem"
-    ∷ codes "header" ∷ codes "other_header" ∷ codes "cipher" ∷ codes "key_bytes" ∷ codes "sector_size"
-    ∷ codes "segment_offset" ∷ codes "segment_size" ∷ codes "requirements" ∷ codes "slots" ∷ codes "digests"
-    ∷ codes "tokens" ∷ codes "findings" ∷ codes "weak" ∷ codes "seqid" ∷ codes "header_size"
-    ∷ codes "checksum_hash" ∷ codes "salt" ∷ codes "iv_tweak" ∷ codes "program_version" ∷ codes "policy"
-    ∷ codes "unsupported" ∷ codes "segment_type" ∷ codes "segment_flags" ∷ codes "integrity" ∷ codes "flags" ∷ []
+    codes "offset\terror\tversion\tuuid\tlabel\tsubsystem\theader\tother_header\tcipher\tkey_bytes\tsector_size\t"
+    ++ codes "segment_offset\tsegment_size\trequirements\tslots\tdigests\ttokens\tfindings\tweak\tseqid\theader_size\t"
+    ++ codes "checksum_hash\tsalt\tiv_tweak\tprogram_version\tpolicy\tunsupported\tsegment_type\tsegment_flags\t"
+    ++ codes "integrity\tflags"
+
+abbrev pub column_names : List (List ℕ)
+column_names = slice_split (λ (byte : ℕ). byte == 9) columns
 
 -- what a member has in its column: nothing if it is null, a text as it stands in JSON but without quotation marks, and
 -- any other value as JSON. JSON escapes tabs and newlines
@@ -44,21 +46,17 @@ tabbed_of value name = 9 ∷ column_of value name
 
 -- the columns of an object, but for the file
 unfoldable pub cells_of : Data → List ℕ
-cells_of value = flat_map (tabbed_of value) columns
+cells_of value = flat_map (tabbed_of value) column_names
 
 -- the line of an object, in which no character is one that a terminal obeys
 unfoldable pub line_text : Format → Data → List ℕ
 line_text Json value = marks_escaped (compact_text value) ++ 10 ∷ []
 line_text Tsv value = marks_escaped (column_of value (codes "file") ++ cells_of value) ++ 10 ∷ []
 
--- the name of a column after a tab
-abbrev pub tabbed : List ℕ → List ℕ
-tabbed name = 9 ∷ name
-
--- the line before all others: the names of the columns, each after the first one after a tab
+-- the line before all others: the names of the columns
 unfoldable pub head_of : Format → List ℕ
 head_of Json = []
-head_of Tsv = codes "file" ++ flat_map tabbed columns ++ 10 ∷ []
+head_of Tsv = codes "file\t" ++ columns ++ 10 ∷ []
 
 -- the object of an image without a header, or of one that could not be read
 unfoldable pub error_value : List ℕ → List ℕ → Data

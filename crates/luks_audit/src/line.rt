@@ -1,9 +1,9 @@
 //! The lines that are printed.
 
 ghost use Rattle.std.specs.Prelude.{◌≡◌, ◌++◌, ◌∷◌, [], IfOk, List, OnOk, false};
-ghost use Rattle.std.specs.Prelude.{flat_map, map, ℕ};
-ghost use Rattle.luks_audit.specs.Line.{cell_text, cells_of, column_of, columns, error_value};
-ghost use Rattle.luks_audit.specs.Line.{head_of, line_text, tabbed, tabbed_of};
+ghost use Rattle.std.specs.Prelude.{map, ℕ};
+ghost use Rattle.luks_audit.specs.Line.{cell_text, cells_of, column_names, column_of};
+ghost use Rattle.luks_audit.specs.Line.{columns, error_value, head_of, line_text, tabbed_of};
 ghost use Rattle.serde_json.specs.View.{view as data_of};
 ghost use Rattle.serde_json.specs.Written.{has_float};
 
@@ -21,41 +21,6 @@ pub enum Format {
     /// As lines of columns with tabs between them, after a line with the names of the columns.
     Tsv,
 }
-
-/// The columns after the first one, which is the file.
-static COLUMNS: [&str; 31] = [
-    "offset",
-    "error",
-    "version",
-    "uuid",
-    "label",
-    "subsystem",
-    "header",
-    "other_header",
-    "cipher",
-    "key_bytes",
-    "sector_size",
-    "segment_offset",
-    "segment_size",
-    "requirements",
-    "slots",
-    "digests",
-    "tokens",
-    "findings",
-    "weak",
-    "seqid",
-    "header_size",
-    "checksum_hash",
-    "salt",
-    "iv_tweak",
-    "program_version",
-    "policy",
-    "unsupported",
-    "segment_type",
-    "segment_flags",
-    "integrity",
-    "flags",
-];
 
 // Adds a text without the quotation marks around it.
 fn push_unquoted(line: &mut Vec<u8>, quoted: &[u8]) -> Result<(), AllocError>
@@ -104,11 +69,22 @@ fn push_tabbed(alloc: Global, line: &mut Vec<u8>, tree: &Tree, name: &str) -> Re
     push_column(alloc, line, tree, name)
 }
 
-// The columns after the first one.
-fn columns() -> &'static [&'static str]
-    ensures { map (λ name. name.now) result.now ≡ columns }
+// The names of the columns after the first one, which is the file, with tabs between them.
+#[tactic(auto, unfolding(crate::specs::Line::columns))]
+fn columns() -> &'static str
+    ensures { result.now ≡ columns }
 {
-    &COLUMNS
+    "offset\terror\tversion\tuuid\tlabel\tsubsystem\theader\tother_header\tcipher\tkey_bytes\t\
+    sector_size\tsegment_offset\tsegment_size\trequirements\tslots\tdigests\ttokens\tfindings\t\
+    weak\tseqid\theader_size\tchecksum_hash\tsalt\tiv_tweak\tprogram_version\tpolicy\t\
+    unsupported\tsegment_type\tsegment_flags\tintegrity\tflags"
+}
+
+// These names.
+fn column_names(alloc: Global) -> Result<Vec<&'static str>, AllocError>
+    ensures { IfOk result (λ names. map (λ name. name.now) names.items ≡ column_names) }
+{
+    columns().split('\t').collect(alloc)
 }
 
 // Adds the columns of an object, but for the file.
@@ -116,7 +92,8 @@ fn columns() -> &'static [&'static str]
 fn push_cells(alloc: Global, line: &mut Vec<u8>, tree: &Tree) -> Result<(), AllocError>
     ensures { OnOk result (line.new.items ≡ line.old.items ++ cells_of tree.now) }
 {
-    for name in columns() {
+    let names = column_names(alloc)?;
+    for name in names.as_slice() {
         push_tabbed(alloc, line, tree, name)?;
     }
     Ok(())
@@ -157,24 +134,13 @@ fn tsv_line(alloc: Global, tree: &Tree) -> Result<Vec<u8>, AllocError>
     Ok(line)
 }
 
-// Adds the names of the columns after the first one, each after a tab.
-fn push_names(line: &mut Vec<u8>) -> Result<(), AllocError>
-    ensures { OnOk result (line.new.items ≡ line.old.items ++ flat_map tabbed columns) }
-{
-    for name in columns() {
-        line.push(b'\t')?;
-        line.extend_from_slice(name.as_bytes())?;
-    }
-    Ok(())
-}
-
 // The line with the names of the columns.
 #[tactic(auto, unfolding(crate::specs::Line::head_of))]
 fn tsv_head(alloc: Global) -> Result<Vec<u8>, AllocError>
     ensures { IfOk result (λ line. line.items ≡ head_of Format.Tsv) }
 {
-    let mut line = b"file".to_vec(alloc)?;
-    push_names(&mut line)?;
+    let mut line = b"file\t".to_vec(alloc)?;
+    line.extend_from_slice(columns().as_bytes())?;
     line.push(b'\n')?;
     Ok(line)
 }
