@@ -53,14 +53,10 @@ abbrev pub finished_state : Policy → Scope → List ℕ → State
 finished_state policy Start bytes = state_by policy (header_of bytes)
 finished_state policy Everywhere bytes = searched_state policy bytes
 
--- why an image was not opened, as it is printed
-abbrev pub unopened_text : ImageFault → List ℕ
-unopened_text NotOpened = codes "cannot be opened"
-unopened_text MemoryToOpen = codes "out of memory"
-
 -- the line of an image that was not opened
 abbrev pub unopened_line : Format → List ℕ → ImageFault → List ℕ
-unopened_line format file fault = line_text format (error_value file (unopened_text fault))
+unopened_line format file NotOpened = line_text format (error_value file (codes "cannot be opened"))
+unopened_line format file MemoryToOpen = fault_line format file Memory
 
 -- what is written of an image with these bytes
 unfoldable pub image_text : Policy → Scope → List ℕ → List ℕ → Course → List ℕ

@@ -6,12 +6,13 @@ ghost use Rattle.luks_audit.specs.Line.{error_value, head_of, line_text};
 ghost use Rattle.luks_audit_run.specs.Run.{Audits, AuditsFile, EndsAudit, Puts, Runs, RunsPartly};
 ghost use Rattle.luks_audit_run.specs.Run.{ending_status};
 ghost use Rattle.luks_audit_run.specs.Run.{ends_unwritten};
-ghost use Rattle.luks_audit_run.specs.Run.{is_unwritten, unopened_line, unopened_text};
+ghost use Rattle.luks_audit_run.specs.Run.{is_unwritten, unopened_line};
 
 use crate::host::{ImageFault, Images};
 use crate::image::{RunFault, Scope, audit_start, graver, put, put_line, search_image};
-use luks_audit::image::{ImageLine, Policy, State};
+use luks_audit::image::{ImageLine, Policy, State, fault_line};
 use luks_audit::line::{Format, error_tree, head_of, line_text};
+use luks_header::fault::HeaderFault;
 use luks_io::sink::Sink;
 use luks_io::source::Source;
 use std::alloc::{AllocError, Global};
@@ -42,16 +43,6 @@ impl Ending {
     }
 }
 
-// What is printed of an image that was not opened.
-fn unopened_text(fault: ImageFault) -> &'static str
-    ensures { result.now ≡ unopened_text fault }
-{
-    match fault {
-        ImageFault::NotOpened => "cannot be opened",
-        ImageFault::Memory => "out of memory",
-    }
-}
-
 // The line of an image that was not opened.
 fn unopened_line(
     alloc: Global,
@@ -61,8 +52,13 @@ fn unopened_line(
 ) -> Result<Vec<u8>, AllocError>
     ensures { IfOk result (λ line. line.items ≡ unopened_line format file.now fault) }
 {
-    let tree = error_tree(alloc, file, unopened_text(fault))?;
-    line_text(alloc, format, &tree)
+    match fault {
+        ImageFault::NotOpened => {
+            let tree = error_tree(alloc, file, "cannot be opened")?;
+            line_text(alloc, format, &tree)
+        }
+        ImageFault::Memory => fault_line(alloc, format, file, HeaderFault::Memory),
+    }
 }
 
 // Writes the line of an image that was not opened.
