@@ -1,6 +1,6 @@
 -- How the commands on volumes end after their volume was opened, and the counts of a run from those of its parts.
 use Rattle.std.proofs.Common.{◌≡◌, ℕ, ◌+◌, ◌*◌, ◌/◌, ◌<◌, ◌≤◌, List, Option, Some, ◌⊎◌, inl, inr, Bool, true, false}
-use Rattle.std.proofs.Common.{ap, refl, subst, sym, length, max, [], drop, length-drop, arith, ◌&&◌}
+use Rattle.std.proofs.Common.{ap, refl, subst, sym, length, max, [], drop, take, length-drop, arith, ◌&&◌}
 use Rattle.std.proofs.Common.{◌^◌}
 use Rattle.luks_cipher.specs.Sector.{Cipher}
 use Rattle.std.proofs.Math.Nat.{div-eq_of_lt-le, mul-le-mul_right}
@@ -41,30 +41,22 @@ use Rattle.luks_io.specs.Counts.{Reads, Writes, allowed_to}
 use Rattle.luks_io.specs.declared.counts.ReadCounts.{ReadCounts}
 use Rattle.luks_io.specs.declared.counts.WriteCounts.{WriteCounts}
 
--- a run also matches with a promptness that follows from its own, and with a fact on the payload's image that does
-pub runs_at : (is_prompt is_prompt' : Promptness) (out : Outcome) (message : Message) (effects : RunEffects)
-    (ConsumedPayload : ℕ → Type 0) → ((consumed : Consumed) (output : ℕ)
-    → is_prompt message consumed output → is_prompt' message consumed output)
-    → ((count : ℕ) → effects.payload count → ConsumedPayload count)
-    → DetachedRunMatches is_prompt out message effects
-    → DetachedRunMatches is_prompt' out message (record effects { payload = ConsumedPayload })
-runs_at is_prompt is_prompt' out message effects ConsumedPayload follows consumed = either (aborts message)
+-- a run also matches with a promptness and with effects that follow from its own
+pub runs_at : (is_prompt is_prompt' : Promptness) (out : Outcome) (message : Message) (Effects Effects' : RunEffects)
+    → ((consumed : Consumed) (output : ℕ) → is_prompt message consumed output → is_prompt' message consumed output)
+    → ((consumed : Consumed) (output : List ℕ) → Effects consumed output → Effects' consumed output)
+    → DetachedRunMatches is_prompt out message Effects → DetachedRunMatches is_prompt' out message Effects'
+runs_at is_prompt is_prompt' out message Effects Effects' follows implied = either (aborts message)
   where
-    either : (b : Bool) → MatchBool b (Aborted is_prompt out message effects) (Completed out message effects)
-        → MatchBool b (Aborted is_prompt' out message (record effects { payload = ConsumedPayload }))
-        (Completed out message (record effects { payload = ConsumedPayload }))
+    either : (b : Bool) → MatchBool b (Aborted is_prompt out message Effects) (Completed out message Effects)
+        → MatchBool b (Aborted is_prompt' out message Effects') (Completed out message Effects')
     either true run =
         aborted_at run.consumed.input run.consumed.payload run.consumed.secret run.output_len run.output_within
         (follows run.consumed run.output_len run.is_prompt)
-        run.input_within run.payload_within run.secret_within run.input
-        (consumed run.consumed.payload run.payload) run.secret run.output
-    either false run = record {
-      as_specified = run.as_specified;
-      input = run.input;
-      payload = consumed out.consumed.payload run.payload;
-      secret = run.secret;
-      output = run.output;
-    }
+        run.input_within run.payload_within run.secret_within
+        (implied run.consumed (take run.output_len out.output) run.effects)
+    either false run =
+        record { as_specified = run.as_specified; effects = implied out.consumed out.output run.effects }
 
 -- what is consumed of the payload's image is of no account if the header is attached
 pub consumed_attached : (request : Request) (image : List ℕ) (left left' : Option (List ℕ)) (count : ℕ)
@@ -89,9 +81,9 @@ module _ (location : HeaderLocation) (slots : AllowedSlots) (image pass : List �
       (volume_outcome_by (reader_for location) (slot_outcome pass) slots image pass) message
       (ConsumedExactly image i) (ConsumedExactly pass s) (Appended w w')
   runs_slot w w' message printed = rw (u.outcome (slot_outcome pass))
-      (runs_at AnyPromptness (PromptOpening location slots image) _ message _ ConsumedNothing
+      (runs_at AnyPromptness (PromptOpening location slots image) _ message _ _
       (λ consumed n any. prompt_memory location slots image message consumed n (λ is. inr (inr u.there)))
-      (λ count none. none) (runs_printed (slot_outcome pass segment opened (length loaded)) (ConsumedExactly image i)
+      (λ consumed output done. done) (runs_printed (slot_outcome pass segment opened (length loaded)) (ConsumedExactly image i)
       (ConsumedExactly pass s) w w' message u.input_consumed refl u.secret_consumed printed))
 
 -- writing the line about the key slot ends with one of these messages, and reads nothing
@@ -135,7 +127,7 @@ module _ (slots : AllowedSlots) (image pass : List ℕ) (segment : Segment) (ope
         λ other is is_past_header. rw (same_segment_by header_of image segment other u.has is)
             (ap (λ n. n * sector_len segment) position),
       ) (omega (arith, inside)) (omega arith) (omega arith)
-      (as_source end later consumption) refl u.secret_consumed output)
+      (as_source end later consumption, refl, u.secret_consumed, output))
   runs_forwarded left i' w w' WriteFailed only (count, written, few, less, inside, consumption, output) as_source =
       let end = max (length loaded) (sector_start segment (count + 1)) in
       let within = positioned_within segment image count written few less in
@@ -146,16 +138,12 @@ module _ (slots : AllowedSlots) (image pass : List ℕ) (segment : Segment) (ope
         λ other is. rw (same_segment_by header_of image segment other u.has is, within.1)
             (omega (arith, u.no_further refl)),
       )
-      (omega (arith, inside)) (omega arith) (omega arith) (as_source end (omega arith) consumption) refl
-      u.secret_consumed output)
+      (omega (arith, inside)) (omega arith) (omega arith)
+      (as_source end (omega arith) consumption, refl, u.secret_consumed, output))
   runs_forwarded left i' w w' message only forwarded as_source =
-      rw (u.outcome (payload_outcome Attached image pass)) (record {
-        as_specified = forwarded.0;
-        input = as_source (max (length loaded) (payload_end_of segment image)) (omega arith) forwarded.1;
-        payload = refl;
-        secret = u.secret_consumed;
-        output = forwarded.2;
-      })
+      let read = as_source (max (length loaded) (payload_end_of segment image)) (omega arith) forwarded.1 in
+      rw (u.outcome (payload_outcome Attached image pass))
+      (record { as_specified = forwarded.0; effects = (read, refl, u.secret_consumed, forwarded.2) })
 
   -- all of the image is loaded
   module _ (none : i ≡ Some []) where
@@ -223,12 +211,8 @@ module _ (slots : AllowedSlots) (file image pass : List ℕ) (segment : Segment)
       → ForwardsPayload segment (segment.mode, opened.key) image 0 i' w w' message
       → DetachedRunMatches (PromptCat Detached slots file)
       (volume_outcome_by detached_header_of (payload_outcome Detached image pass) slots file pass) message
-      (record {
-        input = ConsumedExactly file h;
-        payload = ConsumedExactly image i';
-        secret = ConsumedExactly pass s;
-        output = Appended w w';
-      })
+      (λ consumed output. ConsumedExactly file h consumed.input × ConsumedExactly image i' consumed.payload
+      × ConsumedExactly pass s consumed.secret × Appended w w' output)
   detached_runs_forwarded OutOfMemory only forwarded = absurd only
   detached_runs_forwarded ReadFailed only (end, later, count, position, whole, inside, consumption, output) =
       rw (u.outcome (payload_outcome Detached image pass))
@@ -238,7 +222,8 @@ module _ (slots : AllowedSlots) (file image pass : List ℕ) (segment : Segment)
         λ other is is_past_header. rw (same_segment_by detached_header_of file segment other u.has is)
             (ap (λ n. n * sector_len segment) position),
       )
-      (omega arith) (omega (arith, inside)) (omega arith) u.input_consumed consumption u.secret_consumed output)
+      (omega arith) (omega (arith, inside)) (omega arith)
+      (u.input_consumed, consumption, u.secret_consumed, output))
   detached_runs_forwarded WriteFailed only (count, written, few, less, inside, consumption, output) =
       let within = positioned_within segment image count written few less in
       rw (u.outcome (payload_outcome Detached image pass))
@@ -246,16 +231,13 @@ module _ (slots : AllowedSlots) (file image pass : List ℕ) (segment : Segment)
       (count * sector_len segment + written)
       (omega (arith, plain_len segment image (segment.mode, opened.key), within.0))
       (tt, λ other is. rw (same_segment_by detached_header_of file segment other u.has is, within.1) (omega arith))
-      (omega arith) (omega (arith, inside)) (omega arith) u.input_consumed consumption u.secret_consumed output)
+      (omega arith) (omega (arith, inside)) (omega arith)
+      (u.input_consumed, consumption, u.secret_consumed, output))
   detached_runs_forwarded message only forwarded =
       let all : max 0 (payload_end_of segment image) ≡ payload_end_of segment image = omega arith in
-      rw (u.outcome (payload_outcome Detached image pass)) (record {
-        as_specified = forwarded.0;
-        input = u.input_consumed;
-        payload = subst (ConsumedExactly image i') all forwarded.1;
-        secret = u.secret_consumed;
-        output = forwarded.2;
-      })
+      let read = subst (ConsumedExactly image i') all forwarded.1 in
+      rw (u.outcome (payload_outcome Detached image pass))
+      (record { as_specified = forwarded.0; effects = (u.input_consumed, read, u.secret_consumed, forwarded.2) })
 
 -- forwarding a payload ends with no message that a run without a key may have
 pub with_key : (message : Message) → PayloadMessage message → EndsWithoutKey message → ⊥

@@ -31,7 +31,7 @@ use Rattle.luks_runs.proofs.OutcomeLemmas.{aborted_untried, message_says}
 use Rattle.luks_open.proofs.VolumeLemmas.{volume_with}
 use Rattle.luks_open.specs.KeyFile.{NoKeyFileRead, max_key_file_len}
 use Rattle.luks_open.specs.Location.{HeaderReader, reader_for}
-use Rattle.luks_runs.specs.Run.{Aborted, Completed, Consumed, ConsumedNothing, IsPrefixLen, aborts}
+use Rattle.luks_runs.specs.Run.{Aborted, Completed, Consumed, EffectsOf, IsPrefixLen, aborts}
 use Rattle.luks_runs.specs.Run.{is_run_read_failure}
 use Rattle.luks_open.specs.Volume.{ConsumedUnless, ConsumesMaterial, CountsTrials, FindsNoVolume, FoundIn}
 use Rattle.luks_open.specs.Volume.{HasSegmentBy, MayRunOut, OpeningMatches, TriesSlots, VolumeOpening}
@@ -153,17 +153,9 @@ module _ (location : HeaderLocation) (slots : AllowedSlots) (image pass : List �
           → ConsumedUnless b pass s opening.secret_consumed
           → MatchBool b (Aborted (PromptCat location slots image) (outcome_after on_opened opening)
           (message_for_volume fault)
-          (record {
-            input = ConsumedExactly image i;
-            payload = ConsumedNothing;
-            secret = ConsumedExactly pass s;
-            output = Appended w w;
-          })) (Completed (outcome_after on_opened opening) (message_for_volume fault) (record {
-            input = ConsumedExactly image i;
-            payload = ConsumedNothing;
-            secret = ConsumedExactly pass s;
-            output = Appended w w;
-          }))
+          (EffectsOf (ConsumedExactly image i) (ConsumedExactly pass s) (Appended w w)))
+          (Completed (outcome_after on_opened opening) (message_for_volume fault)
+          (EffectsOf (ConsumedExactly image i) (ConsumedExactly pass s) (Appended w w)))
       by true answer (a, few, consumed) (b, fewer, read) =
           let within = opening_consumed location slots image pass on_opened consumes in
           let says = message_says fault in
@@ -172,9 +164,9 @@ module _ (location : HeaderLocation) (slots : AllowedSlots) (image pass : List �
                 (λ is. ran_out (says.aborted ∙ ap aborts is) (says.read ∙ ap is_run_read_failure is) a consumed),
             prompt_opening location slots image pass (message_for_volume fault) a b few,
           ) (omega (arith, few, within.0))
-          (omega (arith, fewer, within.1)) consumed read
+          (omega (arith, fewer, within.1)) (consumed, refl, read, appended-none w)
       by false answer consumed read = rw (← answer refl) (record
-          { as_specified = refl; input = consumed; payload = refl; secret = read; output = appended-none w })
+          { as_specified = refl; effects = (consumed, refl, read, appended-none w) })
 
   -- no volume was found
   pub locked_unfound : (fault : VolumeFault) → FindsNoVolume (reader_for location) slots image i fault → s ≡ Some pass

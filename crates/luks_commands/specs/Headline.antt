@@ -143,12 +143,10 @@ RunsAsSpecified location request message bytes = IfKnown bytes.input.before (λ 
     → KnowsPayload location request input bytes.payload.before image
     → (secret : List ℕ) → KnowsSecret request bytes.secret.before secret → IsCounted request image
     → DetachedRunMatches (promptness_of location request input) (outcome_of location request input image secret) message
-    (record {
-      input = ConsumedExactly input bytes.input.after;
-      payload = ConsumedOfPayload request location image bytes.payload.after;
-      secret = ConsumedOfSecret request secret bytes.secret.after;
-      output = Appended bytes.output.before bytes.output.after;
-    }))
+    (λ consumed output. ConsumedExactly input bytes.input.after consumed.input
+    × ConsumedOfPayload request location image bytes.payload.after consumed.payload
+    × ConsumedOfSecret request secret bytes.secret.after consumed.secret
+    × Appended bytes.output.before bytes.output.after output))
 
 -- ---- `work`: the evaluations of HMAC
 

@@ -1,11 +1,11 @@
 -- Runs that are aborted, runs that print a text, and runs of the commands on headers.
-use Rattle.std.proofs.Common.{◌≡◌, ℕ, ◌≤◌, List, Option, refl, length, take, arith, Bool, true, false, Ok, Err}
+use Rattle.std.proofs.Common.{◌≡◌, ℕ, ◌≤◌, List, [], Option, refl, length, take, arith, Bool, true, false, Ok, Err}
 use Rattle.luks_io.proofs.EffectLemmas.{appended-none}
 use Rattle.luks_io.specs.Devices.{Appended, ConsumedExactly, counted}
 use Rattle.luks_report.specs.declared.message.Message.{Message}
 use Rattle.luks_report.specs.declared.message.Message.TheVariants.{OutOfMemory, ReadFailed, WriteFailed, Done, Findings}
-use Rattle.luks_runs.specs.Run.{Prints, Aborted, AnyPromptness, ConsumedNothing, IsPrefixLen, Promptness, RunEffects}
-use Rattle.luks_runs.specs.Run.{RunMatches}
+use Rattle.luks_runs.specs.Run.{Prints, Aborted, AnyPromptness, ConsumedNothing, IsPrefixLen, Promptness}
+use Rattle.luks_runs.specs.Run.{RunEffects, RunMatches}
 use Rattle.luks_runs.specs.Run.{Outcome, no_output}
 use Rattle.std.specs.Prelude.{◌==◌, if◌then◌else◌}
 use Rattle.luks_header.specs.Header.{ReadsNoHeader, header_read_len}
@@ -30,13 +30,13 @@ never_failed false count = refl
 
 -- a run was aborted after these numbers of bytes were consumed and written
 pub aborted_at : {is_prompt : Promptness} {o : Outcome} {message : Message}
-    {effects : RunEffects} (input payload secret written : ℕ) → IsPrefixLen message written (length o.output)
+    {Effects : RunEffects} (input payload secret written : ℕ) → IsPrefixLen message written (length o.output)
     → is_prompt message (record { input = input; payload = payload; secret = secret }) written
     → input ≤ o.consumed.input → payload ≤ o.consumed.payload → secret ≤ o.consumed.secret
-    → effects.input input → effects.payload payload → effects.secret secret
-    → effects.output (take written o.output) → Aborted is_prompt o message effects
-aborted_at input payload secret written begins prompt input_within payload_within secret_within of_input of_payload
-    of_secret wrote = record {
+    → Effects (record { input = input; payload = payload; secret = secret }) (take written o.output)
+    → Aborted is_prompt o message Effects
+aborted_at input payload secret written begins prompt input_within payload_within secret_within effects =
+    record {
       consumed = record { input = input; payload = payload; secret = secret };
       output_len = written;
       input_within = input_within;
@@ -44,23 +44,17 @@ aborted_at input payload secret written begins prompt input_within payload_withi
       secret_within = secret_within;
       output_within = begins;
       is_prompt = prompt;
-      input = of_input;
-      payload = of_payload;
-      secret = of_secret;
-      output = wrote;
+      effects = effects;
     }
 
 -- a run was aborted before anything was written
-pub aborted_unwritten : {is_prompt : Promptness} {o : Outcome} {message : Message}
-    {ConsumedInput ConsumedSecret : ℕ → Type 0} {w : Option (List ℕ)} (input secret : ℕ)
-    → IsPrefixLen message 0 (length o.output)
+pub aborted_unwritten : {is_prompt : Promptness} {o : Outcome} {message : Message} {Effects : RunEffects}
+    (input secret : ℕ) → IsPrefixLen message 0 (length o.output)
     → is_prompt message (record { input = input; payload = 0; secret = secret }) 0
-    → input ≤ o.consumed.input → secret ≤ o.consumed.secret → ConsumedInput input → ConsumedSecret secret
-    → Aborted is_prompt o message
-    (record { input = ConsumedInput; payload = ConsumedNothing; secret = ConsumedSecret; output = Appended w w })
-aborted_unwritten {w} input secret begins prompt input_within secret_within of_input of_secret =
-    aborted_at input 0 secret 0 begins prompt input_within (omega arith) secret_within of_input refl of_secret
-    (appended-none w)
+    → input ≤ o.consumed.input → secret ≤ o.consumed.secret
+    → Effects (record { input = input; payload = 0; secret = secret }) [] → Aborted is_prompt o message Effects
+aborted_unwritten input secret begins prompt input_within secret_within effects =
+    aborted_at input 0 secret 0 begins prompt input_within (omega arith) secret_within effects
 
 -- the output was printed, whole or in part, or memory for it ran out
 pub runs_printed : (o : Outcome) (ConsumedInput ConsumedSecret : ℕ → Type 0) (w w' : Option (List ℕ))
@@ -68,13 +62,14 @@ pub runs_printed : (o : Outcome) (ConsumedInput ConsumedSecret : ℕ → Type 0)
     → Prints o.output o.message w w' message
     → RunMatches AnyPromptness o message ConsumedInput ConsumedSecret (Appended w w')
 runs_printed o ConsumedInput ConsumedSecret w w' OutOfMemory input none secret same = rw same
-    (aborted_unwritten o.consumed.input o.consumed.secret refl tt (omega arith) (omega arith) input secret)
+    (aborted_unwritten o.consumed.input o.consumed.secret refl tt (omega arith) (omega arith)
+    (input, refl, secret, appended-none _))
 runs_printed o ConsumedInput ConsumedSecret w w' WriteFailed input none secret part =
-    aborted_at o.consumed.input 0 o.consumed.secret part.0 part.1 tt (omega arith) (omega arith) (omega arith) input
-    refl secret part.2
+    aborted_at o.consumed.input 0 o.consumed.secret part.0 part.1 tt (omega arith) (omega arith) (omega arith)
+    (input, refl, secret, part.2)
 runs_printed o ConsumedInput ConsumedSecret w w' ReadFailed input none secret lost = absurd lost
 runs_printed o ConsumedInput ConsumedSecret w w' _ input none secret all =
-    record { as_specified = all.0; input = input; payload = none; secret = secret; output = all.1 }
+    record { as_specified = all.0; effects = (input, none, secret, all.1) }
 
 -- what holds for `Done`, and in a check also for `Findings`, holds for the message after a text was printed
 pub by_printout : (P : Printout → Message → Type 0) → P Uuid Done → P Dump Done → P Check Done → P Check Findings
@@ -115,12 +110,13 @@ module _ (location : HeaderLocation) (printout : Printout) (image : List ℕ) (i
       → RunMatches AnyPromptness (print_outcome_by (reader_for location) printout image)
       (message_for_header fault) (ConsumedExactly image i) ConsumedNothing (Appended w w)
   runs_without_header ends ends' Read stop =
-      let some = stop.0 in aborted_unwritten some.0 0 (omega arith) tt some.1 (omega arith) some.2 refl
+      let some = stop.0 in aborted_unwritten some.0 0 (omega arith) tt some.1 (omega arith)
+      (some.2, refl, refl, appended-none _)
   runs_without_header ends ends' Memory stop =
       let some = memory_below image i ends ends' stop in
-      aborted_unwritten some.0 0 refl tt some.1 (omega arith) some.2 refl
+      aborted_unwritten some.0 0 refl tt some.1 (omega arith) (some.2, refl, refl, appended-none _)
   runs_without_header ends ends' fault stop = rw (reading_fault location image fault stop.0) (record
-      { as_specified = refl; input = stop.1.0; payload = refl; secret = refl; output = appended-none w })
+      { as_specified = refl; effects = (stop.1.0, refl, refl, appended-none w) })
 
 -- `isLuks` of an image without a readable header, or if reading the header failed
 pub is_luks_refused : (image : List ℕ) (i w : Option (List ℕ)) (ends ends' : ℕ) (fault : HeaderFault)
@@ -128,10 +124,10 @@ pub is_luks_refused : (image : List ℕ) (i w : Option (List ℕ)) (ends ends' :
     → RunMatches AnyPromptness (is_luks_outcome image) (message_for_is_luks (Err fault)) (ConsumedExactly image i)
     ConsumedNothing (Appended w w)
 is_luks_refused image i w ends ends' Read stop =
-    let some = stop.0 in aborted_unwritten some.0 0 (omega arith) tt some.1 (omega arith) some.2 refl
+    let some = stop.0 in aborted_unwritten some.0 0 (omega arith) tt some.1 (omega arith)
+    (some.2, refl, refl, appended-none _)
 is_luks_refused image i w ends ends' Memory stop =
     let some = memory_below image i ends ends' stop in
-    aborted_unwritten some.0 0 refl tt some.1 (omega arith) some.2 refl
+    aborted_unwritten some.0 0 refl tt some.1 (omega arith) (some.2, refl, refl, appended-none _)
 is_luks_refused image i w ends ends' _ stop =
-    let output = appended-none w in
-    rw stop.0 (record { as_specified = refl; input = stop.1.0; payload = refl; secret = refl; output = output })
+    rw stop.0 (record { as_specified = refl; effects = (stop.1.0, refl, refl, appended-none w) })

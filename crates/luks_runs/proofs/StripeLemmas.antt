@@ -100,10 +100,10 @@ module _ (h : Hash) (count : ℕ) (key random : List ℕ) where
   runs_without_key KeyLength k r w refused is =
       let unread = consumed-none random r is in
       rw (key_refused refused.0) (record
-      { as_specified = refl; input = refused.1; payload = refl; secret = unread; output = appended-none w })
+      { as_specified = refl; effects = (refused.1, refl, unread, appended-none w) })
   runs_without_key ReadFailed k r w failed is =
       aborted_unwritten failed.0 0 (omega arith) (simp (zero-div, zero-mul)) (split_consumes_key failed.0 failed.1)
-      (omega arith) failed.2 (consumed-none random r is)
+      (omega arith) (failed.2, refl, consumed-none random r is, appended-none _)
   runs_without_key _ k r w p is = absurd p
 
 -- `consumed` random bytes may be consumed, and the specified output starts with the first `whole` ones
@@ -175,20 +175,24 @@ module _ (h : Hash) (count : ℕ) (key random : List ℕ) (some : 1 ≤ length k
         let whole : length random / length key ≡ stop.0 = div-eq_of_lt-le (length key) stop.2 stop.3 in
         let p = stop.4 in
         rw (random_few few, whole) (record
-        { as_specified = refl; input = consumption; payload = refl; secret = p.consumption; output = p.appended })
+        { as_specified = refl; effects = (consumption, refl, p.consumption, p.appended) })
     runs_without_stripes ReadFailed stop =
         let there = stop.5.consumption.within in
         let may = may_forward stop.0 stop.1 (omega (arith, stop.2, stop.4)) there (omega (arith, stop.2))
         (omega (arith, stop.3)) in
         aborted_at (length key) 0 stop.1 (stop.0 * length key) may.fits
-        (ap (λ q. q * length key) (sym (div-eq_of_lt-le (length key) stop.3 stop.4))) key_whole (omega arith) may.within
-        consumption refl stop.5.consumption (rw (may.begins (stop.0 * length key) (omega arith)) stop.5.appended)
+        (ap (λ q. q * length key) (sym (div-eq_of_lt-le (length key) stop.3 stop.4))) key_whole (omega arith) may.within (
+          consumption,
+          refl,
+          stop.5.consumption,
+          rw (may.begins (stop.0 * length key) (omega arith)) stop.5.appended,
+        )
     runs_without_stripes WriteFailed stop =
         let there = stop.5.consumption.within in
         let may = may_forward (stop.0 + 1) ((stop.0 + 1) * length key) stop.2 there stop.2 there in
         aborted_at (length key) 0 ((stop.0 + 1) * length key) stop.1 (omega (arith, may.fits, stop.4))
-        (rw (div-eq_of_lt-le (length key) stop.3 stop.4) (omega arith)) key_whole (omega arith) may.within consumption
-        refl stop.5.consumption (rw (may.begins stop.1 (omega (arith, stop.4))) stop.5.appended)
+        (rw (div-eq_of_lt-le (length key) stop.3 stop.4) (omega arith)) key_whole (omega arith) may.within
+        (consumption, refl, stop.5.consumption, rw (may.begins stop.1 (omega (arith, stop.4))) stop.5.appended)
     runs_without_stripes _ stop = absurd stop
 
     -- all random stripes were forwarded, and the last stripe was made with this splitter
@@ -210,7 +214,7 @@ module _ (h : Hash) (count : ℕ) (key random : List ℕ) (some : 1 ≤ length k
       runs_to_end a =
           let all = appended-more b w w' (take ((count - 1) * length key) random) last p.appended a in
           rw (random_enough p.consumption.within, ← last_is)
-          (record { as_specified = refl; input = consumption; payload = refl; secret = p.consumption; output = all })
+          (record { as_specified = refl; effects = (consumption, refl, p.consumption, all) })
 
       -- a write failed within the last stripe
       pub runs_without_last : (n : ℕ) → n < length last → length last ≡ length key → Appended w w' (take n last)
@@ -225,8 +229,12 @@ module _ (h : Hash) (count : ℕ) (key random : List ℕ) (some : 1 ≤ length k
           let row : (needed + n) / length key ≡ count - 1 = div-eq_of_lt-le (length key) (omega arith) (omega arith) in
           rw (random_enough p.consumption.within)
           (aborted_at (length key) 0 needed (needed + n) (rw (← last_is) (omega arith)) (rw row (omega arith))
-          (omega arith) (omega arith) (omega arith) consumption refl p.consumption
-          (rw (← last_is, begin) (appended-more b w w' prefix (take n last) p.appended a)))
+          (omega arith) (omega arith) (omega arith) (
+            consumption,
+            refl,
+            p.consumption,
+            rw (← last_is, begin) (appended-more b w w' prefix (take n last) p.appended a),
+          ))
 
 module _ (bytes : List ℕ) (i len : ℕ) (s : Option (List ℕ)) (p : ConsumedExactly bytes s (i * len)) where
   -- one more whole stripe was read
@@ -274,10 +282,10 @@ module _ (h : Hash) (count len : ℕ) (bytes : List ℕ) where
       (Appended w w)
   merges_without_stripes FewStripes s w stop =
       rw (stripes_few stop.0) (record
-      { as_specified = refl; input = stop.1; payload = refl; secret = refl; output = appended-none w })
+      { as_specified = refl; effects = (stop.1, refl, refl, appended-none w) })
   merges_without_stripes ReadFailed s w stop =
       aborted_unwritten stop.0 0 (omega arith) tt (merge_consumes_within stop.0 stop.1 stop.2.within) (omega arith)
-      stop.2 refl
+      (stop.2, refl, refl, appended-none _)
   merges_without_stripes _ s w stop = absurd stop
 
   -- the key was written, whole or in part

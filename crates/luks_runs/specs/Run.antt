@@ -51,15 +51,12 @@ IsPrefixLen OutOfMemory output specified = output ≡ 0
 IsPrefixLen WriteFailed output specified = output < specified
 IsPrefixLen _ output specified = output ≤ specified
 
--- what a run does to its devices: facts about each number of bytes that it consumes of an input, and about its output
-pub record RunEffects : Type 1 where
-  pub input : ℕ → Type 0
-  pub payload : ℕ → Type 0
-  pub secret : ℕ → Type 0
-  pub output : List ℕ → Type 0
+-- what a run does to its devices: a fact about the bytes that it consumes of each input, and about its output
+abbrev pub RunEffects : Type 1
+RunEffects = Consumed → List ℕ → Type 0
 
 -- an aborted run: its output is a prefix of the specified one, and no input was consumed further than specified
-pub record Aborted (pace : Promptness) (outcome : Outcome) (message : Message) (effects : RunEffects) : Type 0 where
+pub record Aborted (pace : Promptness) (outcome : Outcome) (message : Message) (Effects : RunEffects) : Type 0 where
   pub consumed : Consumed
   pub output_len : ℕ
   pub input_within : consumed.input ≤ outcome.consumed.input
@@ -67,33 +64,31 @@ pub record Aborted (pace : Promptness) (outcome : Outcome) (message : Message) (
   pub secret_within : consumed.secret ≤ outcome.consumed.secret
   pub output_within : IsPrefixLen message output_len (length outcome.output)
   pub is_prompt : pace message consumed output_len
-  pub input : effects.input consumed.input
-  pub payload : effects.payload consumed.payload
-  pub secret : effects.secret consumed.secret
-  pub output : effects.output (take output_len outcome.output)
+  pub effects : Effects consumed (take output_len outcome.output)
 
 -- a run that was not aborted: the specified message, output and bytes consumed
-pub record Completed (outcome : Outcome) (message : Message) (effects : RunEffects) : Type 0 where
+pub record Completed (outcome : Outcome) (message : Message) (Effects : RunEffects) : Type 0 where
   pub as_specified : message ≡ outcome.message
-  pub input : effects.input outcome.consumed.input
-  pub payload : effects.payload outcome.consumed.payload
-  pub secret : effects.secret outcome.consumed.secret
-  pub output : effects.output outcome.output
+  pub effects : Effects outcome.consumed outcome.output
 
 -- the run has this outcome, or was aborted on the way to it; the payload is in another image than the header
 abbrev pub DetachedRunMatches : Promptness → Outcome → Message → RunEffects → Type 0
-DetachedRunMatches pace outcome message effects =
-    MatchBool (aborts message) (Aborted pace outcome message effects) (Completed outcome message effects)
+DetachedRunMatches pace outcome message Effects =
+    MatchBool (aborts message) (Aborted pace outcome message Effects) (Completed outcome message Effects)
 
 -- nothing is consumed of an input that a command does not have
 abbrev pub ConsumedNothing : ℕ → Type 0
 ConsumedNothing count = count ≡ 0
 
+-- what a run without an image for the payload alone does to its devices, by each of them
+abbrev pub EffectsOf : (ℕ → Type 0) → (ℕ → Type 0) → (List ℕ → Type 0) → RunEffects
+EffectsOf ConsumedInput ConsumedSecret Wrote consumed output = ConsumedInput consumed.input
+    × ConsumedNothing consumed.payload × ConsumedSecret consumed.secret × Wrote output
+
 -- the same with no image for the payload alone
 abbrev pub RunMatches : Promptness → Outcome → Message → (ℕ → Type 0) → (ℕ → Type 0) → (List ℕ → Type 0) → Type 0
 RunMatches pace outcome message ConsumedInput ConsumedSecret Wrote =
-    DetachedRunMatches pace outcome message
-    (record { input = ConsumedInput; payload = ConsumedNothing; secret = ConsumedSecret; output = Wrote })
+    DetachedRunMatches pace outcome message (EffectsOf ConsumedInput ConsumedSecret Wrote)
 
 -- a failed read is reported
 abbrev pub is_run_read_failure : Message → Bool

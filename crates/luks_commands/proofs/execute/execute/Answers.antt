@@ -22,7 +22,7 @@ writes_plain (luks_cat o) message input secret output left runs = λ known is pa
     let run = rw whole at (runs known is known refl pass has counted) in
     let outcome = unsealed (pbkdf2_alone o.slots) known pass plain honest in (
       run.as_specified ∙ outcome.1,
-      subst (λ (bytes : List ℕ). Appended output.before output.after bytes) outcome.0 run.output,
+      subst (λ (bytes : List ℕ). Appended output.before output.after bytes) outcome.0 run.effects.3,
     )
 writes_plain _ message input secret output left runs = tt
 
@@ -30,7 +30,8 @@ pub returns-clause-run : goal.returns-clause-run
 returns-clause-run g c input is image same secret has counted =
     let request = request_of c.args.command.now in
     runs_at (promptness_of Attached request input) (promptness_of Attached request input) _ _ _ _
-    (λ consumed output prompt. prompt) (consumed_attached request image _ _)
+    (λ consumed output prompt. prompt)
+    (λ consumed output done. (done.0, consumed_attached request image _ _ _ done.1, done.2, done.3))
     (c.run.ensures.run input is image same secret has counted)
 
 pub returns-clause-honest : goal.returns-clause-honest

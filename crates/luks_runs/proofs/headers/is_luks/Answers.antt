@@ -8,7 +8,7 @@ pub returns-clause-run : goal.returns-clause-run
 returns-clause-run g c written known is = elim c.match-read_header.branch [
   | in-Ok w ↦ let read = w.in-Ok.ensures.consumed known is in
       rw (w.result-is, read.0)
-      (record { as_specified = refl; input = read.2; payload = refl; secret = refl; output = appended-none _ })
+      (record { as_specified = refl; effects = (read.2, refl, refl, appended-none _) })
   | in-Err w ↦ let stop = w.in-Err.ensures.no_header known is in
       rw (w.result-is, w.refusal_of.ensures) (is_luks_refused known _ _ _ _ w.in-Err.fault stop)
 ]

@@ -26,7 +26,12 @@ returns-in_err-unlocked-clause-run g c =
     runs_at (PromptCat c.args.location (pbkdf2_alone c.args.args.now.slots) input)
     (PromptCat c.args.location (pbkdf2_alone c.args.args.now.slots) input) _ _ _ _
     (λ consumed output prompt. prompt)
-    (consumed_no_payload c.args.location (volume_request c.args.args.now) input image _ knows)
+    (λ consumed output done. (
+      done.0,
+      consumed_no_payload c.args.location (volume_request c.args.args.now) input image _ knows _ done.1,
+      done.2,
+      done.3,
+    ))
     (stop.err input is pass has (payload_outcome c.args.location image pass)
     (payload_consumes_loaded c.args.location image pass) _))
 

@@ -2,7 +2,7 @@ use Rattle.std.proofs.Common.{inl}
 use Rattle.luks_io.proofs.ErrorLemmas.{given_error}
 use Rattle.luks_runs.specs.VolumeOutcome.{slot_outcome}
 use Rattle.luks_runs.proofs.OutcomeLemmas.{command_says, message_says}
-use Rattle.luks_runs.specs.Run.{ConsumedNothing, result_message}
+use Rattle.luks_runs.specs.Run.{result_message}
 use Rattle.luks_open.specs.Allowed.{pbkdf2_alone}
 use Rattle.luks_commands.specs.Headline.{PromptCat, PromptOpening}
 use Rattle.luks_commands.proofs.OpenedRuns.{no_write_unopened, runs_at, runs_slot, slot_message}
@@ -13,9 +13,8 @@ pub returns-in_err-unlocked-clause-run : goal.returns-in_err-unlocked-clause-run
 returns-in_err-unlocked-clause-run g c =
     rw (given_error _ _ c.from_residual.ensures.1) (λ known is pass has.
     runs_at (PromptCat c.args.location (pbkdf2_alone c.args.slots) known)
-    (PromptOpening c.args.location (pbkdf2_alone c.args.slots) known) _ _ _ ConsumedNothing
-    (λ consumed output is. is.0)
-    (λ count none. none)
+    (PromptOpening c.args.location (pbkdf2_alone c.args.slots) known) _ _ _ _
+    (λ consumed output is. is.0) (λ consumed output done. done)
     (c.in_err-unlocked.ensures.err known is pass has (slot_outcome pass) (slot_consumes_loaded pass) _))
 
 pub returns-clause-run : goal.returns-clause-run
