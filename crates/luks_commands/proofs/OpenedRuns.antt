@@ -14,18 +14,20 @@ use Rattle.luks_runs.proofs.PayloadLemmas.{plain_len}
 use Rattle.luks_runs.proofs.RunLemmas.{aborted_at, runs_printed}
 use Rattle.luks_commands.proofs.VolumeRuns.{prompt_memory, same_segment_by, unlocking}
 use Rattle.luks_open.proofs.VolumeLemmas.{consumed_same}
-use Rattle.luks_runs.specs.Run.{Consumed, Outcome, Prints, Aborted, AnyPromptness, Completed, ConsumedNothing}
+use Rattle.luks_runs.specs.Run.{Consumed, Outcome, Prints, Aborted, AnyPromptness, Completed}
 use Rattle.luks_runs.specs.Run.{DetachedRunMatches, Promptness, RunEffects, RunMatches, aborts, is_run_read_failure}
 use Rattle.luks_runs.specs.Run.{is_run_write_failure}
 use Rattle.luks_runs.specs.VolumeOutcome.{payload_outcome, slot_outcome, volume_outcome, volume_outcome_by}
 use Rattle.luks_runs.specs.VolumeOutcome.{CommandOpeningMessage, ConsumesLoaded, OpeningMessage}
-use Rattle.luks_request.specs.Request.{Request, VolumeRequest, luks_cat}
-use Rattle.luks_commands.specs.Headline.{CatAllows, Change, ConsumedAtLeast, ConsumedOfPayload, CountsCalls}
+use Rattle.luks_request.specs.Request.{Request, VolumeRequest, is_luks, luks_uuid, luks_dump, luks_check, luks_cat}
+use Rattle.luks_request.specs.Request.{test_passphrase, af_split, af_merge}
+use Rattle.luks_commands.specs.Headline.{CatAllows, Change, ConsumedAtLeast, CountsCalls, RunsAsSpecified}
 use Rattle.luks_commands.specs.Headline.{CountsReads}
-use Rattle.luks_commands.specs.Headline.{CountsTried, EndsWithoutKey, KnowsPayload, PromptCat, PromptOpening}
+use Rattle.luks_commands.specs.Headline.{CountsTried, EndsWithoutKey, PromptCat, PromptOpening}
 use Rattle.luks_commands.specs.Headline.{ReadsOnce, ReadsPayload}
 use Rattle.luks_commands.specs.Headline.{Trial}
-use Rattle.luks_commands.specs.Unlocking.{Unlocks}
+use Rattle.luks_commands.specs.Unlocking.{EndsLocked, Unlocks}
+use Rattle.luks_open.specs.Allowed.{pbkdf2_alone}
 use Rattle.luks_open.specs.Location.{reader_for, detached_header_of}
 use Rattle.luks_open.specs.declared.location.HeaderLocation.{HeaderLocation}
 use Rattle.luks_open.specs.declared.location.HeaderLocation.TheVariants.{Attached, Detached}
@@ -58,19 +60,21 @@ runs_at is_prompt is_prompt' out message Effects Effects' follows implied = eith
     either false run =
         record { as_specified = run.as_specified; effects = implied out.consumed out.output run.effects }
 
--- what is consumed of the payload's image is of no account if the header is attached
-pub consumed_attached : (request : Request) (image : List ℕ) (left left' : Option (List ℕ)) (count : ℕ)
-    → ConsumedOfPayload request Attached image left count → ConsumedOfPayload request Attached image left' count
-consumed_attached (luks_cat o) image left left' count none = none
-consumed_attached _ image left left' count none = none
-
--- nothing was consumed of an image that has the payload alone
-pub consumed_no_payload : (location : HeaderLocation) (o : VolumeRequest) (input image : List ℕ)
-    (device : Option (List ℕ)) → KnowsPayload location (luks_cat o) input device image → (count : ℕ)
-    → ConsumedNothing count → ConsumedOfPayload (luks_cat o) location image device count
-consumed_no_payload Attached o input image device knows count none = none
-consumed_no_payload Detached o input image device knows count none =
-    subst (ConsumedExactly image device) (sym none) (consumed-none image device knows)
+-- if the header is attached, the run does not depend on a device for the payload alone
+pub payload_unread : (request : Request) (message : Message) (input payload payload' secret output : Change (Option
+    (List ℕ)))
+    → RunsAsSpecified request Attached message
+    (record { input = input; payload = payload; secret = secret; output = output })
+    → RunsAsSpecified request Attached message
+    (record { input = input; payload = payload'; secret = secret; output = output })
+payload_unread (is_luks _) message input payload payload' secret output runs = runs
+payload_unread (luks_uuid _) message input payload payload' secret output runs = runs
+payload_unread (luks_dump _) message input payload payload' secret output runs = runs
+payload_unread (luks_check _) message input payload payload' secret output runs = runs
+payload_unread (test_passphrase o) message input payload payload' secret output runs = runs
+payload_unread (luks_cat o) message input payload payload' secret output runs = runs
+payload_unread (af_split s) message input payload payload' secret output runs = runs
+payload_unread (af_merge m) message input payload payload' secret output runs = runs
 
 module _ (location : HeaderLocation) (slots : AllowedSlots) (image pass : List ℕ) (segment : Segment) (opened : Opened)
     (loaded : List ℕ) (i s : Option (List ℕ))
@@ -202,6 +206,30 @@ payload_consumes_loaded Attached image pass =
     record { loaded = λ segment opened loaded. omega arith; whole = λ segment opened loaded. refl }
 payload_consumes_loaded Detached image pass =
     record { loaded = λ segment opened loaded. omega arith; whole = λ segment opened loaded. refl }
+
+-- a run of `luksCat` that opened no volume: it consumed nothing of an image that has the payload alone, and wrote nothing
+pub cat_locked : (location : HeaderLocation) (o : VolumeRequest) (message : Message)
+    (input secret : Change (Option (List ℕ))) (payload output : Option (List ℕ))
+    → IfKnown input.before (λ known. IfKnown secret.before (λ pass.
+    EndsLocked location (pbkdf2_alone o.slots) known pass message input.after secret.after))
+    → RunsAsSpecified (luks_cat o) location message (record {
+      input = input;
+      payload = record { before = payload; after = payload };
+      secret = secret;
+      output = record { before = output; after = output };
+    })
+cat_locked Attached o message input secret payload output ends = λ image is pass has counted.
+    ends image is pass has (payload_outcome Attached image pass) (payload_consumes_loaded Attached image pass) output
+cat_locked Detached o message input secret payload output ends = λ file is image knows pass has counted.
+    runs_at (PromptCat Detached (pbkdf2_alone o.slots) file) (PromptCat Detached (pbkdf2_alone o.slots) file) _ _ _ _
+    (λ consumed len prompt. prompt)
+    (λ consumed bytes done. (
+      done.0,
+      subst (ConsumedExactly image payload) (sym done.1) (consumed-none image payload knows),
+      done.2,
+      done.3,
+    ))
+    (ends file is pass has (payload_outcome Detached image pass) (payload_consumes_loaded Detached image pass) output)
 
 module _ (slots : AllowedSlots) (file image pass : List ℕ) (segment : Segment) (opened : Opened) (loaded : List ℕ)
     (h s : Option (List ℕ)) (u : Unlocks (unlocking Detached slots file pass h s) segment opened loaded)

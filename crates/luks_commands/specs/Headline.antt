@@ -2,12 +2,12 @@
 -- areas and payload are in one image. With a detached one, header and key areas come from the header's file, and the
 -- payload from the image, at the segment's own offset.
 use Rattle.std.specs.Prelude.{◌≡◌, ℕ, ◌<◌, ◌^◌, max, List, length, Option, Some, Bool, true, ◌&&◌, not, ◌⊎◌, is_err}
-use Rattle.std.specs.Prelude.{IfSome, false, ◌≤◌, ◌+◌, ◌-◌, ◌*◌, ◌/◌, Ok}
+use Rattle.std.specs.Prelude.{false, ◌≤◌, ◌+◌, ◌-◌, ◌*◌, ◌/◌, Ok}
 use Rattle.luks_io.specs.Counts.{Reads, Writes, allowed_to}
 use Rattle.luks_io.specs.declared.counts.ReadCounts.{ReadCounts}
 use Rattle.luks_io.specs.declared.counts.WriteCounts.{WriteCounts}
 use Rattle.luks_io.specs.Devices.{Appended, ConsumedExactly, ConsumedFewer, IfKnown, counted}
-use Rattle.luks_request.specs.Request.{Request, test_passphrase, luks_cat, af_split, secret_of, is_luks, luks_uuid}
+use Rattle.luks_request.specs.Request.{Request, test_passphrase, luks_cat, af_split, is_luks, luks_uuid}
 use Rattle.luks_request.specs.Request.{luks_dump, luks_check, af_merge}
 use Rattle.luks_open.specs.declared.allowed.AllowedSlots.{AllowedSlots}
 use Rattle.luks_open.specs.Allowed.{pbkdf2_alone}
@@ -16,7 +16,7 @@ use Rattle.luks_open.specs.declared.location.HeaderLocation.{HeaderLocation}
 use Rattle.luks_open.specs.declared.location.HeaderLocation.TheVariants.{Attached, Detached}
 use Rattle.luks_runs.specs.Payload.{max_payload_end}
 use Rattle.luks_runs.specs.Run.{Promptness, AnyPromptness, is_run_read_failure}
-use Rattle.luks_runs.specs.Run.{is_run_write_failure, DetachedRunMatches, aborts, Outcome}
+use Rattle.luks_runs.specs.Run.{is_run_write_failure, DetachedRunMatches, RunMatches, aborts, ConsumedNothing, Outcome}
 use Rattle.luks_runs.specs.Stripe.{max_key_len, PromptSplit, merge_outcome, split_outcome}
 use Rattle.luks_open.specs.Volume.{HasSegmentBy, MayRunOut, volume_by}
 use Rattle.luks_runs.specs.VolumeOutcome.{slot_outcome, OnOpened}
@@ -38,21 +38,7 @@ use Rattle.luks_runs.specs.declared.headers.Printout.TheVariants.{Uuid, Dump, Ch
 use Rattle.luks_runs.specs.RunMessages.{CheckMessage, IsLuksMessage, MergeMessage, PayloadMessage, PrintMessage}
 use Rattle.luks_runs.specs.RunMessages.{SplitMessage}
 
--- ---- `run`: the outcome of a command for the bytes of its inputs, and how a run is compared with it
-
--- the outcome of a command for the bytes of its first input, of the image with the payload and of its second input, if
--- its header is at this location
-abbrev pub outcome_of : HeaderLocation → Request → List ℕ → List ℕ → List ℕ → Outcome
-outcome_of location (is_luks _) input image secret = is_luks_outcome input
-outcome_of location (luks_uuid _) input image secret = print_outcome_by (reader_for location) Uuid input
-outcome_of location (luks_dump _) input image secret = print_outcome_by (reader_for location) Dump input
-outcome_of location (luks_check _) input image secret = print_outcome_by (reader_for location) Check input
-outcome_of location (test_passphrase o) input image secret =
-    volume_outcome_by (reader_for location) (slot_outcome secret) (pbkdf2_alone o.slots) input secret
-outcome_of location (luks_cat o) input image secret =
-    volume_outcome_by (reader_for location) (payload_outcome location image secret) (pbkdf2_alone o.slots) input secret
-outcome_of location (af_split s) input image secret = split_outcome s.hash s.stripes input secret
-outcome_of location (af_merge m) input image secret = merge_outcome m.hash m.stripes m.key_bytes input
+-- ---- `run`: how the run of a command is compared with the outcome for the bytes of its inputs
 
 -- forwarding a payload is aborted: if a write fails, no byte of the image past the sector in which it failed was
 -- consumed, except for the header's; if a read fails, the output is the whole sectors that were consumed. This is said
@@ -85,41 +71,6 @@ abbrev pub PromptCat : HeaderLocation → AllowedSlots → List ℕ → Promptne
 PromptCat location slots image message consumed output = PromptOpening location slots image message consumed output
     × PromptPayload location image message consumed output
 
--- how promptly a command ends if it is aborted, with this image, or this file with a detached header
-abbrev pub promptness_of : HeaderLocation → Request → List ℕ → Promptness
-promptness_of location (test_passphrase o) image = PromptOpening location (pbkdf2_alone o.slots) image
-promptness_of location (luks_cat o) image = PromptCat location (pbkdf2_alone o.slots) image
-promptness_of location (af_split s) image = PromptSplit (length image)
-promptness_of location _ image = AnyPromptness
-
--- these are the bytes of the image with the payload. An attached header and its payload are both in the first input;
--- the image of a detached header knows its bytes if the command reads any of it
-abbrev pub KnowsPayload : HeaderLocation → Request → List ℕ → Option (List ℕ) → List ℕ → Type 0
-KnowsPayload Attached request input device image = image ≡ input
-KnowsPayload Detached (luks_cat o) input device image = device ≡ Some image
-KnowsPayload Detached request input device image = Unit {0}
-
--- the second input of a command knows its bytes, if there is one
-abbrev pub KnowsSecret : Request → Option (List ℕ) → List ℕ → Type 0
-KnowsSecret request device secret = IfSome (secret_of request) (λ _. device ≡ Some secret)
-
--- the image is not longer than the command can count: `luksCat` counts its bytes in 64 bits
-abbrev pub IsCounted : Request → List ℕ → Type 0
-IsCounted (luks_cat o) image = length image < 2 ^ 64
-IsCounted _ image = Unit {0}
-
--- what was consumed of the image with the payload. If the header is attached, that was counted as the first input's
-abbrev pub ConsumedOfPayload : Request → HeaderLocation → List ℕ → Option (List ℕ) → ℕ → Type 0
-ConsumedOfPayload (luks_cat o) Detached image left = ConsumedExactly image left
-ConsumedOfPayload request location image left = λ count. count ≡ 0
-
--- what was consumed of the second input
-abbrev pub ConsumedOfSecret : Request → List ℕ → Option (List ℕ) → ℕ → Type 0
-ConsumedOfSecret (test_passphrase o) secret left = ConsumedExactly secret left
-ConsumedOfSecret (luks_cat o) secret left = ConsumedExactly secret left
-ConsumedOfSecret (af_split s) secret left = ConsumedExactly secret left
-ConsumedOfSecret _ secret left = λ count. count ≡ 0
-
 -- what a device has before and after a run
 pub record Change (T : Type 0) : Type 0 where
   pub before : T
@@ -135,18 +86,53 @@ pub record Devices (In Out : Type 0) : Type 0 where
   pub secret : Change In
   pub output : Change Out
 
--- if the inputs of a command know their bytes, and the image with the payload is not too long to be counted, the run
--- has the outcome that is specified for those bytes, or was aborted on the way to it. (`DetachedRunMatches` counts what
--- is consumed of an image that has the payload alone; if the header is attached, there is none, and this is 0.)
-abbrev pub RunsAsSpecified : HeaderLocation → Request → Message → Devices (Option (List ℕ)) (Option (List ℕ)) → Type 0
-RunsAsSpecified location request message bytes = IfKnown bytes.input.before (λ input. (image : List ℕ)
-    → KnowsPayload location request input bytes.payload.before image
-    → (secret : List ℕ) → KnowsSecret request bytes.secret.before secret → IsCounted request image
-    → DetachedRunMatches (promptness_of location request input) (outcome_of location request input image secret) message
-    (λ consumed output. ConsumedExactly input bytes.input.after consumed.input
-    × ConsumedOfPayload request location image bytes.payload.after consumed.payload
-    × ConsumedOfSecret request secret bytes.secret.after consumed.secret
-    × Appended bytes.output.before bytes.output.after output))
+-- if the first input knows its bytes, the run has the outcome for these, or was aborted on the way to it
+abbrev pub RunsOverInput : (List ℕ → Outcome) → Message → Devices (Option (List ℕ)) (Option (List ℕ)) → Type 0
+RunsOverInput outcome message bytes = IfKnown bytes.input.before (λ input.
+    RunMatches AnyPromptness (outcome input) message (ConsumedExactly input bytes.input.after) ConsumedNothing
+    (Appended bytes.output.before bytes.output.after))
+
+-- the same for the first input and the second one. If the run was aborted, it was as prompt as is said for the first
+abbrev pub RunsOverInputs : (List ℕ → Promptness) → (List ℕ → List ℕ → Outcome) → Message
+    → Devices (Option (List ℕ)) (Option (List ℕ)) → Type 0
+RunsOverInputs pace outcome message bytes = IfKnown bytes.input.before (λ input. IfKnown bytes.secret.before (λ secret.
+    RunMatches (pace input) (outcome input secret) message (ConsumedExactly input bytes.input.after)
+    (ConsumedExactly secret bytes.secret.after) (Appended bytes.output.before bytes.output.after)))
+
+-- the run of a command, if its header is at this location: if its inputs know their bytes, it has the outcome for these,
+-- or was aborted on the way to it. The image of `luksCat` has to be shorter than 2^64 bytes, which it counts in 64 bits.
+-- With an attached header, that image is the first input, and nothing is consumed of another one; with a detached
+-- header, the file with the header is the first input, and the payload is in an image of its own
+abbrev pub RunsAsSpecified : Request → HeaderLocation → Message → Devices (Option (List ℕ)) (Option (List ℕ)) → Type 0
+RunsAsSpecified (is_luks _) location message bytes = RunsOverInput is_luks_outcome message bytes
+RunsAsSpecified (luks_uuid _) location message bytes =
+    RunsOverInput (print_outcome_by (reader_for location) Uuid) message bytes
+RunsAsSpecified (luks_dump _) location message bytes =
+    RunsOverInput (print_outcome_by (reader_for location) Dump) message bytes
+RunsAsSpecified (luks_check _) location message bytes =
+    RunsOverInput (print_outcome_by (reader_for location) Check) message bytes
+RunsAsSpecified (test_passphrase o) location message bytes =
+    RunsOverInputs (PromptOpening location (pbkdf2_alone o.slots)) (λ input secret. volume_outcome_by (reader_for location)
+    (slot_outcome secret) (pbkdf2_alone o.slots) input secret) message bytes
+RunsAsSpecified (luks_cat o) Attached message bytes =
+    IfKnown bytes.input.before (λ image. IfKnown bytes.secret.before (λ secret. length image < 2 ^ 64
+    → DetachedRunMatches (PromptCat Attached (pbkdf2_alone o.slots) image)
+    (volume_outcome_by header_of (payload_outcome Attached image secret) (pbkdf2_alone o.slots) image secret) message
+    (λ consumed output. ConsumedExactly image bytes.input.after consumed.input × (consumed.payload ≡ 0)
+    × ConsumedExactly secret bytes.secret.after consumed.secret
+    × Appended bytes.output.before bytes.output.after output)))
+RunsAsSpecified (luks_cat o) Detached message bytes = IfKnown bytes.input.before (λ file.
+    IfKnown bytes.payload.before (λ image. IfKnown bytes.secret.before (λ secret. length image < 2 ^ 64
+    → DetachedRunMatches (PromptCat Detached (pbkdf2_alone o.slots) file)
+    (volume_outcome_by detached_header_of (payload_outcome Detached image secret) (pbkdf2_alone o.slots) file secret)
+    message (λ consumed output. ConsumedExactly file bytes.input.after consumed.input
+    × ConsumedExactly image bytes.payload.after consumed.payload
+    × ConsumedExactly secret bytes.secret.after consumed.secret
+    × Appended bytes.output.before bytes.output.after output))))
+RunsAsSpecified (af_split s) location message bytes =
+    RunsOverInputs (λ key. PromptSplit (length key)) (split_outcome s.hash s.stripes) message bytes
+RunsAsSpecified (af_merge m) location message bytes =
+    RunsOverInput (merge_outcome m.hash m.stripes m.key_bytes) message bytes
 
 -- ---- `work`: the evaluations of HMAC
 

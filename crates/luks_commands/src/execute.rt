@@ -74,7 +74,7 @@ pub fn execute<I: Source, K: Source, O: Sink>(
     out: &mut O,
 ) -> Report
     requires attached { has_header_file (request_of command.now) ≡ false }
-    ensures run { RunsAsSpecified HeaderLocation.Attached (request_of command.now) result.message
+    ensures run { RunsAsSpecified (request_of command.now) HeaderLocation.Attached result.message
         (record {
           input = record { before = I.to_come image.old; after = I.to_come image.new };
           payload = record { before = I.to_come image.old; after = I.to_come image.new };
@@ -129,7 +129,7 @@ pub fn execute_detached<H: Source, I: Source, K: Source, O: Sink>(
     out: &mut O,
 ) -> Report
     requires detached { has_header_file (request_of command.now) ≡ true }
-    ensures run { RunsAsSpecified HeaderLocation.Detached (request_of command.now) result.message
+    ensures run { RunsAsSpecified (request_of command.now) HeaderLocation.Detached result.message
         (record {
           input = record { before = H.to_come header.old; after = H.to_come header.new };
           payload = record { before = I.to_come image.old; after = I.to_come image.new };
@@ -175,7 +175,7 @@ fn run<H: Source, I: Source, K: Source, O: Sink>(
     secret: &mut K,
     out: &mut O,
 ) -> Report
-    ensures run { RunsAsSpecified location (request_of command.now) result.message
+    ensures run { RunsAsSpecified (request_of command.now) location result.message
         (record {
           input = record { before = H.to_come input.old; after = H.to_come input.new };
           payload = record { before = I.to_come image.old; after = I.to_come image.new };

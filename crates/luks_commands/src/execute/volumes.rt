@@ -201,7 +201,7 @@ pub(super) fn cat<H: Source, I: Source, K: Source, O: Sink>(
 ) -> Result<(), Message>
     ensures only { CommandOpeningMessage (result_message result)
         ⊎ PayloadMessage (result_message result) }
-    ensures run { RunsAsSpecified location (luks_cat (volume_request args.now))
+    ensures run { RunsAsSpecified (luks_cat (volume_request args.now)) location
         (result_message result)
         (record {
           input = record { before = H.to_come header.old; after = H.to_come header.new };

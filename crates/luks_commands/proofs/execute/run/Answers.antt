@@ -6,7 +6,7 @@ use Rattle.luks_commands.proofs.execute.run.Goals as goal
 
 pub returns-in-IsLuks : goal.returns-in-IsLuks
 returns-in-IsLuks g c = let said = c.report.ensures in rw (said.0, said.1, c.in-IsLuks.is) (record {
-  run = λ input is image _ secret _ _. c.is_luks.ensures.run _ input is;
+  run = λ input is. c.is_luks.ensures.run _ input is;
   work = c.new-work.ensures;
   only = c.is_luks.ensures.only;
   unneeded = λ _. refl;
@@ -19,7 +19,7 @@ returns-in-IsLuks g c = let said = c.report.ensures in rw (said.0, said.1, c.in-
 
 pub returns-in-LuksUuid : goal.returns-in-LuksUuid
 returns-in-LuksUuid g c = let said = c.report-in-LuksUuid.ensures in rw (said.0, said.1, c.in-LuksUuid.is) (record {
-  run = λ input is image _ secret _ _. c.print.ensures.run input is;
+  run = λ input is. c.print.ensures.run input is;
   work = c.new-work.ensures;
   only = c.print.ensures.only;
   unneeded = λ _. refl;
@@ -32,7 +32,7 @@ returns-in-LuksUuid g c = let said = c.report-in-LuksUuid.ensures in rw (said.0,
 
 pub returns-in-LuksDump : goal.returns-in-LuksDump
 returns-in-LuksDump g c = let said = c.report-in-LuksDump.ensures in rw (said.0, said.1, c.in-LuksDump.is) (record {
-  run = λ input is image _ secret _ _. c.print-in-LuksDump.ensures.run input is;
+  run = λ input is. c.print-in-LuksDump.ensures.run input is;
   work = c.new-work.ensures;
   only = c.print-in-LuksDump.ensures.only;
   unneeded = λ _. refl;
@@ -45,7 +45,7 @@ returns-in-LuksDump g c = let said = c.report-in-LuksDump.ensures in rw (said.0,
 
 pub returns-in-LuksCheck : goal.returns-in-LuksCheck
 returns-in-LuksCheck g c = let said = c.report-in-LuksCheck.ensures in rw (said.0, said.1, c.in-LuksCheck.is) (record {
-  run = λ input is image _ secret _ _. c.print-in-LuksCheck.ensures.run input is;
+  run = λ input is. c.print-in-LuksCheck.ensures.run input is;
   work = c.new-work.ensures;
   only = c.print-in-LuksCheck.ensures.only;
   unneeded = λ _. refl;
@@ -58,7 +58,7 @@ returns-in-LuksCheck g c = let said = c.report-in-LuksCheck.ensures in rw (said.
 
 pub returns-in-AfMerge : goal.returns-in-AfMerge
 returns-in-AfMerge g c = let said = c.report-in-AfMerge.ensures in rw (said.0, said.1, c.in-AfMerge.is) (record {
-  run = λ input is image _ secret _ _. c.merge.ensures.run input is;
+  run = λ input is. c.merge.ensures.run input is;
   work = c.new-work.ensures;
   only = c.merge.ensures.only;
   unneeded = λ _. refl;
@@ -71,7 +71,7 @@ returns-in-AfMerge g c = let said = c.report-in-AfMerge.ensures in rw (said.0, s
 
 pub returns-in-AfSplit : goal.returns-in-AfSplit
 returns-in-AfSplit g c = let said = c.report-in-AfSplit.ensures in rw (said.0, said.1, c.in-AfSplit.is) (record {
-  run = λ input is image _ random has _. c.split.ensures.run input is random has;
+  run = λ input is random has. c.split.ensures.run input is random has;
   work = c.new-work.ensures;
   only = c.split.ensures.only;
   unneeded = λ needs. c.split.ensures.unneeded needs.0 needs.1 needs.2;
@@ -88,7 +88,7 @@ returns-in-AfSplit g c = let said = c.report-in-AfSplit.ensures in rw (said.0, s
 pub returns-in-TestPassphrase : goal.returns-in-TestPassphrase
 returns-in-TestPassphrase g c =
     let said = c.report-in-TestPassphrase.ensures in rw (said.0, said.1, c.in-TestPassphrase.is) (record {
-      run = λ input is image _ pass has _. c.test_passphrase.ensures.run input is pass has;
+      run = λ input is pass has. c.test_passphrase.ensures.run input is pass has;
       work = rw c.new-work.ensures at c.test_passphrase.ensures.work;
       only = c.test_passphrase.ensures.only;
       unneeded = λ needs. c.test_passphrase.ensures.unneeded needs.0 needs.1 needs.2;

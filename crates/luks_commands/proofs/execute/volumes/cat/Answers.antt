@@ -7,33 +7,20 @@ use Rattle.luks_runs.proofs.RunLemmas.{never_failed}
 use Rattle.luks_runs.proofs.OutcomeLemmas.{command_says, message_says}
 use Rattle.luks_runs.specs.Run.{is_run_read_failure, result_message}
 use Rattle.luks_open.specs.Allowed.{pbkdf2_alone}
-use Rattle.luks_runs.specs.VolumeOutcome.{payload_outcome}
 use Rattle.luks_open.specs.declared.location.HeaderLocation.TheVariants.{Attached, Detached}
 use Rattle.luks_commands.proofs.OpenedRuns.{allows_payload, calls_without_payload}
-use Rattle.luks_commands.proofs.OpenedRuns.{consumed_no_payload, counts_forwarded}
+use Rattle.luks_commands.proofs.OpenedRuns.{cat_locked, counts_forwarded}
 use Rattle.luks_commands.proofs.OpenedRuns.{detached_runs_forwarded, loaded_from_none}
 use Rattle.luks_commands.proofs.OpenedRuns.{loaded_whole, no_write_unopened}
 use Rattle.luks_commands.proofs.OpenedRuns.{none_allowed, none_failed, payload_after}
-use Rattle.luks_commands.proofs.OpenedRuns.{payload_consumes_loaded, runs_at, runs_forwarded}
+use Rattle.luks_commands.proofs.OpenedRuns.{runs_forwarded}
 use Rattle.luks_commands.proofs.OpenedRuns.{with_key}
-use Rattle.luks_commands.specs.Headline.{PromptCat}
 use Rattle.luks_commands.proofs.execute.volumes.cat.Goals as goal
 
 pub returns-in_err-unlocked-clause-run : goal.returns-in_err-unlocked-clause-run
 returns-in_err-unlocked-clause-run g c =
-    let stop = c.in_err-unlocked.ensures in
-    rw (given_error _ _ c.from_residual.ensures.1) (λ input is image knows pass has counted.
-    runs_at (PromptCat c.args.location (pbkdf2_alone c.args.args.now.slots) input)
-    (PromptCat c.args.location (pbkdf2_alone c.args.args.now.slots) input) _ _ _ _
-    (λ consumed output prompt. prompt)
-    (λ consumed output done. (
-      done.0,
-      consumed_no_payload c.args.location (volume_request c.args.args.now) input image _ knows _ done.1,
-      done.2,
-      done.3,
-    ))
-    (stop.err input is pass has (payload_outcome c.args.location image pass)
-    (payload_consumes_loaded c.args.location image pass) _))
+    rw (given_error _ _ c.from_residual.ensures.1)
+    (cat_locked c.args.location (volume_request c.args.args.now) _ _ _ _ _ c.in_err-unlocked.ensures.err)
 
 pub returns-in_err-unlocked-clause-calls : goal.returns-in_err-unlocked-clause-calls
 returns-in_err-unlocked-clause-calls g c =
@@ -84,12 +71,11 @@ returns-in-Detached-clause-work g c known is pass has = inl (c.in_ok-unlocked.en
 -- ---- the payload is in the image with the header
 
 pub returns-clause-run : goal.returns-clause-run
-returns-clause-run g c = rw c.in-Attached.is (λ input is image same pass has counted.
+returns-clause-run g c = rw c.in-Attached.is (λ input is pass has counted.
     let u = rw c.in-Attached.is at (c.in_ok-unlocked.ensures.ok input is pass has) in
-    let forwarded = rw c.as_slice-loaded.ensures.value at
-    (c.write_plain-in-Attached.ensures.run input (rw same at counted)) in
-    rw same (runs_forwarded _ input pass _ _ _ _ _ u _ _ _ _ (result_message c.write_plain-in-Attached.result)
-    c.write_plain-in-Attached.ensures.only (forwarded u.prefix u.input_consumed) (λ n most consumption. consumption)))
+    let forwarded = rw c.as_slice-loaded.ensures.value at (c.write_plain-in-Attached.ensures.run input counted) in
+    runs_forwarded _ input pass _ _ _ _ _ u _ _ _ _ (result_message c.write_plain-in-Attached.result)
+    c.write_plain-in-Attached.ensures.only (forwarded u.prefix u.input_consumed) (λ n most consumption. consumption))
 
 pub returns-clause-calls : goal.returns-clause-calls
 returns-clause-calls g c =
@@ -125,17 +111,17 @@ returns-clause-work g c = rw c.in-Attached.is (λ known is pass has.
 
 -- EOF was hit on the image: its payload is forwarded from memory
 pub returns-then-has_ended-clause-run : goal.returns-then-has_ended-clause-run
-returns-then-has_ended-clause-run g c = rw c.in-Attached.is (λ input is image same pass has counted.
+returns-then-has_ended-clause-run g c = rw c.in-Attached.is (λ input is pass has counted.
     let unlocked = c.in_ok-unlocked.ensures in
     let u = rw c.in-Attached.is at (unlocked.ok input is pass has) in
     let none = unlocked.loaded.emptied (sym c.has_ended.ensures ∙ c.if-has_ended.true) input is in
     let forwarded = rw c.as_slice-loaded.ensures.value at
-    (c.write_plain-then-has_ended.ensures.run input (rw same at counted)) in
+    (c.write_plain-then-has_ended.ensures.run input counted) in
     let source = ap (λ (m : MemSourceModel). Some m.left) c.new.ensures in
-    rw same (runs_forwarded _ input pass _ _ _ _ _ u _ _ _ _ (result_message c.write_plain-then-has_ended.result)
+    runs_forwarded _ input pass _ _ _ _ _ u _ _ _ _ (result_message c.write_plain-then-has_ended.result)
     c.write_plain-then-has_ended.ensures.only
     (forwarded u.prefix (rw source (loaded_from_none _ input pass _ _ _ _ _ u none)))
-    (λ n most consumption. loaded_whole _ input pass _ _ _ _ _ u none n most consumption.within)))
+    (λ n most consumption. loaded_whole _ input pass _ _ _ _ _ u none n most consumption.within))
 
 pub returns-then-has_ended-clause-calls : goal.returns-then-has_ended-clause-calls
 returns-then-has_ended-clause-calls g c =
