@@ -6,19 +6,18 @@ use Rattle.std.specs.Prelude.{not, codes, is_none, is_some, option_map, ◌==◌
 use Rattle.std.proofs.lemmas.Bool.{not-false, ne_eqb}
 use Rattle.std.proofs.lemmas.Option.{none-some}
 use Rattle.luks_cipher.specs.declared.mode.Mode.{Mode}
-use Rattle.luks_format.proofs.MadeLemmas.{refused_or-none, segment_of_all-yes}
+use Rattle.luks_format.proofs.MadeLemmas.{refused_or-none, segment_from-yes}
 use Rattle.luks_format.proofs.TableLemmas.{none_holds}
 use Rattle.luks_format.specs.SectorSize.{has_whole_sectors}
 use Rattle.luks_format.specs.declared.sector_size.SectorSize.{SectorSize as Sector}
 use Rattle.luks2_json.specs.Member.{decimal_member}
 use Rattle.luks2_metadata.specs.Segment2.{has_requirement, is_segment, has_segment_members, mode2_of}
 use Rattle.luks2_metadata.specs.Segment2.{sector_size_of, segment_faults, size_is_wrong, size_member}
-use Rattle.luks_format.specs.Segment.{segment_of_all}
 use Rattle.luks_format.specs.declared.refusal.SegmentFault.TheVariants.{Requirement, Segments}
 use Rattle.luks2_metadata.specs.declared.bounds.Bounds.{Bounds}
 use Rattle.luks2_metadata.specs.Segment2.{payload2_start, payload_mode2_of, fault2_of}
 use Rattle.luks2_metadata.specs.Segment2.{is_empty_array}
-use Rattle.luks2_metadata.specs.Segment2.{segment2_of, segment_parts2_of, segment_value}
+use Rattle.luks2_metadata.specs.Segment2.{segment2_of, segment_of_members, segment_value}
 use Rattle.luks2_metadata.specs.Segment2.{only_member, the_segment}
 use Rattle.serde_json.specs.Data.{Data, Items, Members, array}
 use Rattle.std.specs.Result.{result_ok}
@@ -81,7 +80,7 @@ segment_none tree segments entries there all more = rw (← there, ← all) (sym
 
 -- a segment without a fault is made from its parts
 pub segment2-none : (tree : Data) (bounds : Bounds) (segment : Segment) → fault2_of tree bounds ≡ None
-    → segment_from (segment_parts2_of (segment_value tree)) ≡ Some segment → segment2_of tree bounds ≡ Ok segment
+    → segment_of_members (segment_value tree) ≡ Some segment → segment2_of tree bounds ≡ Ok segment
 unfolding segment2_of
 segment2-none tree bounds segment none made = refused_or-none _ _ segment none made
 
@@ -92,11 +91,11 @@ made_of_parts : (offset : Option ℕ) (size : Option (Option ℕ)) (iv_tweak : O
     (mode : Option Mode) (encryption sized : Bool)
     → (is_some offset && is_some size && is_some iv_tweak && encryption && sized) ≡ true
     → is_none sector_size ≡ false → is_none mode ≡ false → size_is_wrong size sector_size ≡ false
-    → segment_of_all offset size iv_tweak sector_size mode ≢ None
+    → segment_from offset size iv_tweak sector_size mode ≢ None
 unfolding size_is_wrong
 made_of_parts (Some offset) (Some size) (Some iv_tweak) (Some sector_size) (Some mode) _ _ members z m whole none =
     none-some _ (sym none
-    ∙ segment_of_all-yes offset size iv_tweak sector_size mode (not-false (has_whole_sectors size sector_size) whole))
+    ∙ segment_from-yes offset size iv_tweak sector_size mode (not-false (has_whole_sectors size sector_size) whole))
 made_of_parts _ _ _ _ _ _ _ members z m whole none = absurd cc
 
 -- a valid segment of type crypt has its members
@@ -107,8 +106,8 @@ members_there _ _ _ is kind = absurd cc
 
 -- a segment without a fault is made from its parts, so it is never refused with `Member`
 pub made2 : (tree : Data) (bounds : Bounds) → fault2_of tree bounds ≡ None
-    → segment_from (segment_parts2_of (segment_value tree)) ≢ None
-unfolding fault2_of segment_from segment_parts2_of is_segment has_segment_members
+    → segment_of_members (segment_value tree) ≢ None
+unfolding fault2_of segment_of_members is_segment has_segment_members
 made2 tree bounds no_fault =
     let segment = segment_value tree in
     let all = none_holds ((has_requirement tree, Requirement) ∷ (is_none (the_segment tree), Segments)

@@ -14,7 +14,6 @@ use Rattle.luks_format.specs.declared.refusal.SegmentFault.TheVariants.{Requirem
 use Rattle.luks_format.specs.declared.refusal.SegmentFault.TheVariants.{Encryption, SectorSize, Offset, Size}
 use Rattle.luks_format.specs.declared.sector_size.SectorSize.{SectorSize as Sector}
 use Rattle.luks_format.specs.declared.segment.Segment.{Segment}
-use Rattle.luks_format.specs.declared.segment.SegmentParts.{SegmentParts}
 use Rattle.luks2_metadata.specs.declared.bounds.Bounds.{Bounds}
 use Rattle.luks2_json.specs.Member.{decimal_member, has, string_is, is_type, string_member, integer_member, in_member}
 use Rattle.luks2_json.specs.Member.{encryption_mode}
@@ -115,22 +114,18 @@ fault2_of tree bounds = first_match (
     ∷ (is_none (the_segment tree), Segments)
     ∷ segment_faults bounds (segment_value tree))
 
--- the values of a segment's members
-unfoldable pub segment_parts2_of : Data → SegmentParts
-segment_parts2_of segment = record {
-  offset = decimal_member (codes "offset") segment;
-  size = size_member segment;
-  iv_tweak = decimal_member (codes "iv_tweak") segment;
-  sector_size = sector_size_of segment;
-  mode = mode2_of segment;
-}
+-- the segment with the values of its members, if each can be read and is in range
+unfoldable pub segment_of_members : Data → Option Segment
+segment_of_members segment =
+    segment_from (decimal_member (codes "offset") segment) (size_member segment)
+    (decimal_member (codes "iv_tweak") segment) (sector_size_of segment) (mode2_of segment)
 
 -- ---- the segment
 
 -- the segment, or its first fault
 unfoldable pub segment2_of : Data → Bounds → Result Segment SegmentFault
 segment2_of tree bounds =
-    refused_or (fault2_of tree bounds) (segment_from (segment_parts2_of (segment_value tree)))
+    refused_or (fault2_of tree bounds) (segment_of_members (segment_value tree))
 
 -- ---- values that key slots are checked against
 

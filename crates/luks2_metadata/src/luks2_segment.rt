@@ -8,7 +8,7 @@ ghost use Rattle.luks2_metadata.specs.Segment2.{is_empty_array, is_segment, size
 ghost use Rattle.luks2_metadata.specs.Segment2.{mode2_of};
 ghost use Rattle.luks2_metadata.specs.Segment2.{payload2_start, payload_mode2_of, requires_nothing};
 ghost use Rattle.luks2_metadata.specs.Segment2.{sector_size_of, segment2_of};
-ghost use Rattle.luks2_metadata.specs.Segment2.{segment_faults, segment_parts2_of, size_member};
+ghost use Rattle.luks2_metadata.specs.Segment2.{segment_faults, segment_of_members, size_member};
 ghost use Rattle.luks2_metadata.specs.Segment2.{offset_is_wrong, the_segment};
 ghost use Rattle.serde_json.specs.Find.{get};
 ghost use Rattle.serde_json.specs.View.{view as data_of};
@@ -17,7 +17,7 @@ use crate::bounds::Bounds;
 use luks_cipher::Mode;
 use luks_format::refusal::SegmentFault;
 use luks_format::sector_size::SectorSize;
-use luks_format::segment::{Segment, SegmentParts};
+use luks_format::segment::Segment;
 use luks2_json::encryption::encryption_mode;
 use luks2_json::member::{decimal_member, integer_member, is_type, string_is, string_member};
 use luks2_json::tree::Metadata;
@@ -175,18 +175,18 @@ fn fault(segment: &Value, bounds: Bounds) -> Option<SegmentFault>
     }
 }
 
-// The values of a segment's members.
-#[tactic(auto, unfolding(crate::specs::Segment2::segment_parts2_of))]
-fn parts(segment: &Value) -> SegmentParts
-    ensures { result ≡ segment_parts2_of (data_of segment.now) }
+// The segment with the values of its members, if each can be read and is in range.
+#[tactic(auto, unfolding(crate::specs::Segment2::segment_of_members))]
+fn of_members(segment: &Value) -> Option<Segment>
+    ensures { result ≡ segment_of_members (data_of segment.now) }
 {
-    SegmentParts {
-        offset: decimal_member(segment, "offset"),
-        size: size(segment),
-        iv_tweak: decimal_member(segment, "iv_tweak"),
-        sector_size: sector_size(segment),
-        mode: mode(segment),
-    }
+    Segment::from_parts(
+        decimal_member(segment, "offset"),
+        size(segment),
+        decimal_member(segment, "iv_tweak"),
+        sector_size(segment),
+        mode(segment),
+    )
 }
 
 // The segment of a tree, or its first fault.
@@ -200,7 +200,7 @@ fn segment_in(tree: &Value, bounds: Bounds) -> Result<Segment, SegmentFault>
     let Some(segment) = the_segment(tree) else {
         return Err(SegmentFault::Segments);
     };
-    Segment::unless_refused(fault(segment, bounds), parts(segment))
+    Segment::unless_refused(fault(segment, bounds), of_members(segment))
 }
 
 /// The segment of a header with these bounds, or its first fault. This allocates nothing.

@@ -8,9 +8,8 @@ use Rattle.luks_open.specs.declared.unlocked.UnlockedVolume.{UnlockedVolume}
 use Rattle.luks_cipher.specs.Sector.{Cipher}
 use Rattle.luks_cipher.specs.declared.mode.Mode.{Mode}
 use Rattle.luks_cipher.specs.declared.mode.Mode.TheVariants.{XtsPlain64, XtsPlain, CbcEssivSha256, CbcPlain64}
-use Rattle.luks_format.proofs.MadeLemmas.{segment_by, segment_of_all-yes}
+use Rattle.luks_format.proofs.MadeLemmas.{segment_by, segment_from-yes}
 use Rattle.luks_format.proofs.SectorLemmas.{sector_size_again}
-use Rattle.luks_format.specs.Segment.{segment_from}
 use Rattle.luks_format.specs.SectorSize.{bytes_of, sector_size_with}
 use Rattle.luks_format.specs.declared.sector_size.SectorSize.{SectorSize}
 use Rattle.luks_format.specs.declared.segment.Segment.{Segment}
@@ -48,11 +47,11 @@ module _ (c : LuksrdVolume) (v : UnlockedVolume) (stored : Stores c v) where
       by (Some size) has is = rw (has, is) refl
 
   pub stored_segment : segment_in c ≡ Some v.segment
-  unfolding segment_from segment_by
+  unfolding segment_by
   stored_segment =
       let s = v.segment in
       rw (stored_sector, stored_mode, stored.offset, stored_size, stored.iv_tweak)
-      (segment_of_all-yes s.offset s.size s.iv_tweak s.sector_size s.mode s.whole_sectors)
+      (segment_from-yes s.offset s.size s.iv_tweak s.sector_size s.mode s.whole_sectors)
 
   -- what holds of the segment and the cipher that were read from the struct holds of the volume's
   pub for_volume : (P : Segment → Cipher → Type 0) (s : Segment) → Some s ≡ segment_in c → P s (cipher_in c s.mode)

@@ -207,13 +207,8 @@ size_stored_in c = if c.has_size == 0 then Some None else if c.has_size == 1 the
 
 -- the segment of the payload
 abbrev pub segment_in : LuksrdVolume → Option Segment
-segment_in c = segment_from record {
-  offset = Some c.offset;
-  size = size_stored_in c;
-  iv_tweak = Some c.iv_tweak;
-  sector_size = sector_size_with c.sector_size;
-  mode = mode_in c.mode;
-}
+segment_in c =
+    segment_from (Some c.offset) (size_stored_in c) (Some c.iv_tweak) (sector_size_with c.sector_size) (mode_in c.mode)
 
 -- the volume key
 abbrev pub key_in : LuksrdVolume → List ℕ

@@ -9,7 +9,7 @@ ghost use Rattle.luks_c.specs.Stored.{segment_in, size_stored_in};
 
 use luks_cipher::Mode;
 use luks_format::sector_size::SectorSize;
-use luks_header::segment::{Segment, SegmentParts};
+use luks_header::segment::Segment;
 
 /// The length of the longest volume key in bytes.
 const CAPACITY: usize = 64;
@@ -87,13 +87,13 @@ pub(crate) fn size(volume: &LuksrdVolume) -> Option<Option<u64>>
 pub(crate) fn segment(volume: &LuksrdVolume) -> Option<Segment>
     ensures { result ≡ segment_in volume.now }
 {
-    Segment::from_parts(SegmentParts {
-        offset: Some(volume.offset),
-        size: size(volume),
-        iv_tweak: Some(volume.iv_tweak),
-        sector_size: sector_size(volume),
-        mode: mode_of_number(volume.mode),
-    })
+    Segment::from_parts(
+        Some(volume.offset),
+        size(volume),
+        Some(volume.iv_tweak),
+        sector_size(volume),
+        mode_of_number(volume.mode),
+    )
 }
 
 /// Its key, if this mode has keys of its length.

@@ -8,7 +8,7 @@ use Rattle.std.proofs.lemmas.Option.{none-some, same_Some}
 use Rattle.luks_cipher.specs.declared.mode.Mode.{Mode}
 use Rattle.luks_format.specs.Rule.{evidence_if, is_digest, iterations_out_of_range}
 use Rattle.luks_format.specs.SectorSize.{has_whole_sectors}
-use Rattle.luks_format.specs.Segment.{refused_or, segment_of_all}
+use Rattle.luks_format.specs.Segment.{refused_or, segment_from}
 use Rattle.luks_format.specs.Derivation.{is_in_range}
 use Rattle.luks_format.specs.Slot.{digest_from, has_no_usable_digest, material_end}
 use Rattle.luks_format.specs.Slot.{slot_from, verdict_by, verdict_kind_of}
@@ -80,12 +80,12 @@ segment_by offset size iv_tweak sector_size mode is = record {
   whole_sectors = is;
 }
 
-pub segment_of_all-yes : (offset : ℕ) (size : Option ℕ) (iv_tweak : ℕ) (sector_size : SectorSize) (mode : Mode)
+pub segment_from-yes : (offset : ℕ) (size : Option ℕ) (iv_tweak : ℕ) (sector_size : SectorSize) (mode : Mode)
     (is : has_whole_sectors size sector_size ≡ true)
-    → segment_of_all (Some offset) (Some size) (Some iv_tweak) (Some sector_size) (Some mode)
+    → segment_from (Some offset) (Some size) (Some iv_tweak) (Some sector_size) (Some mode)
     ≡ Some (segment_by offset size iv_tweak sector_size mode is)
 unfolding segment_by
-segment_of_all-yes offset size iv_tweak sector_size mode is =
+segment_from-yes offset size iv_tweak sector_size mode is =
     ap (option_map (segment_by offset size iv_tweak sector_size mode))
     (evidence_if-yes (has_whole_sectors size sector_size) is)
 
@@ -96,7 +96,7 @@ mapped f o y is = grind (arith, common_steps, same_Some)
 
 -- the segment that these parts make starts at the stated offset and has the stated mode
 pub parts_made : (offset : Option ℕ) (size : Option (Option ℕ)) (iv_tweak : Option ℕ) (sector_size : Option SectorSize)
-    (mode : Option Mode) (segment : Segment) → segment_of_all offset size iv_tweak sector_size mode ≡ Some segment
+    (mode : Option Mode) (segment : Segment) → segment_from offset size iv_tweak sector_size mode ≡ Some segment
     → (offset ≡ Some segment.offset) × (mode ≡ Some segment.mode)
 unfolding segment_by
 parts_made (Some offset) (Some size) (Some iv_tweak) (Some sector_size) (Some mode) segment is =

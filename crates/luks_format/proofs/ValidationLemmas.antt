@@ -12,7 +12,7 @@ use Rattle.luks_kdf.specs.declared.hash.Hash.{Hash}
 use Rattle.luks_format.specs.Derivation.{is_derivable, is_in_range}
 use Rattle.luks_format.specs.Rule.{exceeds, iterations_out_of_range, area_out_of_range}
 use Rattle.luks_format.specs.Rule.{stripes_out_of_range, key_material_len}
-use Rattle.luks_format.specs.Segment.{segment_from, segment_of_all}
+use Rattle.luks_format.specs.Segment.{segment_from}
 use Rattle.luks_format.specs.Slot.{digest_from, material_end, verdict_kind_of, slot_from}
 use Rattle.luks_format.specs.Table.{first_match}
 use Rattle.luks_format.proofs.MadeLemmas.{are_in_range, digest_there, mapped, of_usable, parts_made}
@@ -27,7 +27,7 @@ use Rattle.luks_format.specs.declared.slot.Slot.{Slot}
 use Rattle.luks_format.specs.declared.slot.Verdict.TheVariants.{Usable}
 use Rattle.luks_format.specs.declared.slot.VerdictKind.TheVariants.{Usable as KindUsable}
 use Rattle.luks_format.specs.Segment1.{is_key_length1, segment1_of}
-use Rattle.luks_format.specs.Segment1.{segment_faults1, segment_parts1_of}
+use Rattle.luks_format.specs.Segment1.{segment_faults1}
 use Rattle.luks_format.specs.Slot1.{digest_parts1_of, hash1_of, is_disabled, area1_out_of_range, mode1_of}
 use Rattle.luks_format.specs.Slot1.{payload1_start, slot1_at, slot1_of, slot_parts1_of, slot_reasons1, verdict1_at}
 use Rattle.luks_format.specs.Slot1.{verdict1_of}
@@ -47,24 +47,25 @@ pub record IsSegment1 (header : Header1) (segment : Segment) : Type 0 where
 
 -- if the mode is known, a segment is made
 made_in : (mode : Option Mode) (offset : ℕ) → is_none mode ≡ false
-    → segment_of_all (Some offset) (Some None) (Some 0) (Some B512) mode ≢ None
+    → segment_from (Some offset) (Some None) (Some 0) (Some B512) mode ≢ None
 made_in None offset known none = cc
 made_in (Some mode) offset known none = cc
 
 -- a segment without a fault is made from its parts, so it is never refused with `Member`
 pub made1 : (header : Header1) → first_match (segment_faults1 header) ≡ None
-    → segment_from (segment_parts1_of header) ≢ None
-unfolding segment_faults1 segment_from
+    → segment_from (Some (512 * header.payload_offset)) (Some None) (Some 0) (Some B512) (mode1_of header) ≢ None
+unfolding segment_faults1
 made1 header no_fault =
     made_in (mode1_of header) (512 * header.payload_offset) (none_holds (segment_faults1 header) no_fault).0
 
 -- a header whose segment is valid has that segment and can be read
 pub IsReadable-ok : (header : Header1) (segment : Segment) → segment1_of header ≡ Ok segment
     → IsSegment1 header segment × IsReadable header
-unfolding segment1_of segment_from segment_faults1
+unfolding segment1_of segment_faults1
 IsReadable-ok header segment is =
     let fault = first_match (segment_faults1 header) in
-    let made = refused_or-ok fault (segment_from (segment_parts1_of header)) segment is in
+    let made = refused_or-ok fault
+    (segment_from (Some (512 * header.payload_offset)) (Some None) (Some 0) (Some B512) (mode1_of header)) segment is in
     let parts = parts_made (Some (512 * header.payload_offset)) (Some None) (Some 0) (Some B512) (mode1_of header)
     segment made.1 in
     let all = none_holds (segment_faults1 header) made.0 in
@@ -73,7 +74,8 @@ IsReadable-ok header segment is =
 
 -- a segment without a fault is the one that is made
 pub segment1-none : (header : Header1) (segment : Segment) → first_match (segment_faults1 header) ≡ None
-    → segment_from (segment_parts1_of header) ≡ Some segment → segment1_of header ≡ Ok segment
+    → segment_from (Some (512 * header.payload_offset)) (Some None) (Some 0) (Some B512) (mode1_of header)
+    ≡ Some segment → segment1_of header ≡ Ok segment
 unfolding segment1_of
 segment1-none header segment none made = refused_or-none _ _ segment none made
 

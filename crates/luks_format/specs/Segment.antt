@@ -8,11 +8,11 @@ use Rattle.luks_format.specs.declared.refusal.SegmentFault.{SegmentFault}
 use Rattle.luks_format.specs.declared.refusal.SegmentFault.TheVariants.{Member}
 use Rattle.luks_format.specs.declared.sector_size.SectorSize.{SectorSize}
 use Rattle.luks_format.specs.declared.segment.Segment.{Segment}
-use Rattle.luks_format.specs.declared.segment.SegmentParts.{SegmentParts}
 
--- the segment with these parts, if each is present, and the length is a multiple of the sectors' length if it is fixed
-abbrev pub segment_of_all : Option ℕ → Option (Option ℕ) → Option ℕ → Option SectorSize → Option Mode → Option Segment
-segment_of_all (Some offset) (Some size) (Some iv_tweak) (Some sector_size) (Some mode) =
+-- the segment with these parts that were read: its offset, length, first unit number, sector size and mode. There is
+-- one if each is present, and the length is a multiple of the sectors' length if it is fixed
+abbrev pub segment_from : Option ℕ → Option (Option ℕ) → Option ℕ → Option SectorSize → Option Mode → Option Segment
+segment_from (Some offset) (Some size) (Some iv_tweak) (Some sector_size) (Some mode) =
     option_map (λ is. record {
       offset = offset;
       size = size;
@@ -21,11 +21,7 @@ segment_of_all (Some offset) (Some size) (Some iv_tweak) (Some sector_size) (Som
       mode = mode;
       whole_sectors = is;
     }) (evidence_if (has_whole_sectors size sector_size))
-segment_of_all _ _ _ _ _ = None
-
--- the segment with the parts that were read, if each is present and in range
-unfoldable pub segment_from : SegmentParts → Option Segment
-segment_from parts = segment_of_all parts.offset parts.size parts.iv_tweak parts.sector_size parts.mode
+segment_from _ _ _ _ _ = None
 
 -- the payload's segment, or its fault. A segment without a fault has all its parts, and they are in range (`made1`,
 -- `made2`), so `Member` is never added here

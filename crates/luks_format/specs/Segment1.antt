@@ -10,7 +10,6 @@ use Rattle.luks_format.specs.declared.refusal.SegmentFault.{SegmentFault}
 use Rattle.luks_format.specs.declared.refusal.SegmentFault.TheVariants.{Encryption, Hash, KeyBytes, Offset}
 use Rattle.luks_format.specs.declared.sector_size.SectorSize.TheVariants.{B512}
 use Rattle.luks_format.specs.declared.segment.Segment.{Segment}
-use Rattle.luks_format.specs.declared.segment.SegmentParts.{SegmentParts}
 use Rattle.luks_format.specs.Header1.{header1_len}
 use Rattle.luks_format.specs.Slot1.{hash1_of, mode1_of}
 use Rattle.luks_format.specs.declared.header.Header1.{Header1}
@@ -32,16 +31,8 @@ segment_faults1 header =
     ∷ (overlaps_header1 header, Offset)
     ∷ []
 
--- the parts of the segment: its sectors of 512 bytes are numbered from 0, and it goes to the image's end
-abbrev pub segment_parts1_of : Header1 → SegmentParts
-segment_parts1_of header = record {
-  offset = Some (512 * header.payload_offset);
-  size = Some None;
-  iv_tweak = Some 0;
-  sector_size = Some B512;
-  mode = mode1_of header;
-}
-
--- the segment of a header, or its first fault
+-- the segment of a header, or its first fault. It goes to the image's end, and its sectors of 512 bytes are numbered
+-- from 0
 unfoldable pub segment1_of : Header1 → Result Segment SegmentFault
-segment1_of header = refused_or (first_match (segment_faults1 header)) (segment_from (segment_parts1_of header))
+segment1_of header = refused_or (first_match (segment_faults1 header))
+    (segment_from (Some (512 * header.payload_offset)) (Some None) (Some 0) (Some B512) (mode1_of header))

@@ -23,21 +23,6 @@ pub struct Segment {
     ghost whole_sectors: { has_whole_sectors size sector_size ≡ true },
 }
 
-/// The parts of a segment that are read, before they are checked: each one if it could be read.
-#[derive(Clone, Copy, Debug)]
-pub struct SegmentParts {
-    /// The first byte of the payload.
-    pub offset: Option<u64>,
-    /// The length of the payload in bytes, or `Some(None)` if it goes to the image's end.
-    pub size: Option<Option<u64>>,
-    /// The unit number of the first sector.
-    pub iv_tweak: Option<u64>,
-    /// The length of a sector.
-    pub sector_size: Option<SectorSize>,
-    /// The mode in which sectors are encrypted.
-    pub mode: Option<Mode>,
-}
-
 // The length is a multiple of the sectors' length, if it is fixed.
 fn has_whole_sectors(size: Option<u64>, sector_size: SectorSize) -> bool
     ensures { result ≡ has_whole_sectors size sector_size }
@@ -52,16 +37,22 @@ impl Segment {
     ghost use Rattle.std.specs.Prelude.{◌≡◌};
     ghost use Rattle.luks_format.specs.Segment.{refused_or, segment_from};
 
-    /// The segment with these parts, if each is present and in range.
-    #[tactic(auto, unfolding(crate::specs::Segment::segment_from))]
-    pub fn from_parts(parts: SegmentParts) -> Option<Segment>
-        ensures { result ≡ segment_from parts }
+    /// The segment with the parts that were read, if each is present and in range. A length of
+    /// `Some(None)` goes to the image's end.
+    pub fn from_parts(
+        offset: Option<u64>,
+        size: Option<Option<u64>>,
+        iv_tweak: Option<u64>,
+        sector_size: Option<SectorSize>,
+        mode: Option<Mode>,
+    ) -> Option<Segment>
+        ensures { result ≡ segment_from offset size iv_tweak sector_size mode }
     {
-        let offset = parts.offset?;
-        let size = parts.size?;
-        let iv_tweak = parts.iv_tweak?;
-        let sector_size = parts.sector_size?;
-        let mode = parts.mode?;
+        let offset = offset?;
+        let size = size?;
+        let iv_tweak = iv_tweak?;
+        let sector_size = sector_size?;
+        let mode = mode?;
         if !has_whole_sectors(size, sector_size) {
             return None;
         }
@@ -74,20 +65,20 @@ impl Segment {
         })
     }
 
-    /// The segment with these parts, or this fault.
+    /// This segment, or this fault.
     ///
     /// # Errors
     ///
-    /// The fault; without one, `Member` if a part is missing or out of range.
+    /// The fault; without one, `Member` if there is no segment.
     pub fn unless_refused(
         fault: Option<SegmentFault>,
-        parts: SegmentParts,
+        segment: Option<Segment>,
     ) -> Result<Segment, SegmentFault>
-        ensures { result ≡ refused_or fault (segment_from parts) }
+        ensures { result ≡ refused_or fault segment }
     {
         match fault {
             Some(fault) => Err(fault),
-            None => Segment::from_parts(parts).ok_or(SegmentFault::Member),
+            None => segment.ok_or(SegmentFault::Member),
         }
     }
 }

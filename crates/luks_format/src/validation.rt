@@ -17,7 +17,7 @@ use crate::rule::{
     area_out_of_range, iterations_out_of_range, key_material_len, stripes_out_of_range,
 };
 use crate::sector_size::SectorSize;
-use crate::segment::{Segment, SegmentParts};
+use crate::segment::Segment;
 use crate::slot::{Slot, SlotParts, VerdictKind};
 use luks_cipher::Mode;
 use luks_kdf::Hash;
@@ -224,12 +224,12 @@ fn fault(header: &Header1) -> Option<SegmentFault>
 pub fn segment(header: &Header1) -> Result<Segment, SegmentFault>
     ensures { result ≡ segment1_of header.now }
 {
-    let parts = SegmentParts {
-        offset: Some(sector_offset(header.payload_offset)),
-        size: Some(None),
-        iv_tweak: Some(0),
-        sector_size: Some(SectorSize::B512),
-        mode: header.mode(),
-    };
-    Segment::unless_refused(fault(header), parts)
+    let segment = Segment::from_parts(
+        Some(sector_offset(header.payload_offset)),
+        Some(None),
+        Some(0),
+        Some(SectorSize::B512),
+        header.mode(),
+    );
+    Segment::unless_refused(fault(header), segment)
 }

@@ -4,7 +4,6 @@ use Rattle.std.proofs.Common.{◌≡◌, ◌∙◌, ℕ, ◌+◌, ◌*◌, true,
 use Rattle.std.proofs.Common.{List, [], ◌∷◌, get_or, bytes_eq, option_map, sym}
 use Rattle.luks_kdf.proofs.Pbkdf2Lemmas.{length-derived_key}
 use Rattle.luks_format.specs.Rule.{key_material_len}
-use Rattle.luks_format.specs.Segment.{segment_from}
 use Rattle.luks_format.specs.Slot.{digest_from, has_no_usable_digest, slot_from}
 use Rattle.luks_format.specs.Table.{first_match}
 use Rattle.luks_format.specs.declared.sector_size.SectorSize.TheVariants.{B512}
@@ -73,7 +72,7 @@ module _ (p : Seal1) (fits : AreParameters1 p) (typed : AreTyped1 p) where
       rw (mode1_is, hash1_is, fits.key, le-ltb (512 * p.payload_sectors) 592 (omega (arith, fits.counts.3))) refl
 
   segment1_is : segment1_of (found_header p) ≡ Ok (segment1 p)
-  unfolding segment_from segment_by
+  unfolding segment_by
   segment1_is = segment1-none (found_header p) (segment1 p) no_fault (rw mode1_is refl)
 
   -- ---- the digest

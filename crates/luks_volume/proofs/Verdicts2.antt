@@ -5,17 +5,16 @@ use Rattle.std.proofs.Common.{◌≡◌, ◌∙◌, ◌*◌, ◌%◌, ◌<◌, �
 use Rattle.std.proofs.Common.{ap, arith, refl, sym, codes, ◌+◌, le-leb, lt-ltb}
 use Rattle.std.proofs.lemmas.Bool.{eq-eqb, le-ltb}
 use Rattle.luks_format.specs.SectorSize.{has_whole_sectors}
-use Rattle.luks_format.specs.Segment.{segment_from}
 use Rattle.luks_format.specs.declared.segment.Segment.{Segment}
 use Rattle.luks_format.proofs.MadeLemmas.{are_in_range, digest_from-yes, digest_of, is_usable, segment_by}
-use Rattle.luks_format.proofs.MadeLemmas.{segment_of_all-yes, slot_from-yes, slot_of}
+use Rattle.luks_format.proofs.MadeLemmas.{segment_from-yes, slot_from-yes, slot_of}
 use Rattle.luks_format.proofs.SectorLemmas.{sector_size_again}
 use Rattle.luks2_json.specs.Member.{decimal_member, string_is, string_member, integer_member, base64_member}
 use Rattle.luks2_json.specs.Member.{hash_member, is_length_for}
 use Rattle.luks2_json.specs.Member.{encryption_mode, in_member}
 use Rattle.luks2_metadata.specs.Segment2.{fault2_of, has_requirement, has_segment_members, is_segment, size_is_wrong}
 use Rattle.luks2_metadata.specs.Segment2.{mode2_of, sector_size_of}
-use Rattle.luks2_metadata.specs.Segment2.{segment2_of, segment_parts2_of, size_member}
+use Rattle.luks2_metadata.specs.Segment2.{segment2_of, segment_of_members, size_member}
 use Rattle.luks2_metadata.specs.Segment2.{offset_is_wrong, the_segment, payload2_start, payload_mode2_of}
 use Rattle.luks2_metadata.specs.declared.bounds.Bounds.{Bounds}
 use Rattle.luks2_metadata.proofs.SegmentLemmas.{segment2-none, segment2-ok}
@@ -150,11 +149,11 @@ module _ (p : Seal2) (fits : AreParameters2 p) (typed : AreTyped2 p) where
 
   -- the segment that is read back is this one, which is not refused
   pub segment_read : segment2_of (metadata_of p) (bounds_of p) ≡ Ok segment_is
-  unfolding segment_from segment_parts2_of segment_is
+  unfolding segment_of_members segment_is
   segment_read =
       segment2-none (metadata_of p) (bounds_of p) segment_is no_fault
       (rw (is_there, offset_is, size_is, iv_tweak_is, sector_size_is, mode_is)
-      (segment_of_all-yes p.offset (fixed_size p.fixed (length p.plain.now)) p.iv_tweak p.sector_size p.mode whole))
+      (segment_from-yes p.offset (fixed_size p.fixed (length p.plain.now)) p.iv_tweak p.sector_size p.mode whole))
 
   -- ---- the digest: its members
 

@@ -5,7 +5,7 @@ use super::tables::{Subject, check_rows};
 use crate::tests::shared::assert_of;
 use luks_cipher::Mode;
 use luks_format::sector_size::SectorSize;
-use luks_format::segment::{Segment, SegmentParts};
+use luks_format::segment::Segment;
 use luks2_json::tree::Metadata;
 use luks2_metadata::bounds::Bounds;
 use luks2_metadata::luks2_segment::segment;
@@ -19,13 +19,15 @@ pub(super) fn verdict(metadata: &Metadata, bounds: Bounds) -> &'static str {
     }
 }
 
-const AS_IT_IS: SegmentParts = SegmentParts {
-    offset: Some(16_777_216),
-    size: Some(None),
-    iv_tweak: Some(0),
-    sector_size: Some(SectorSize::B512),
-    mode: Some(Mode::XtsPlain64),
-};
+fn as_it_is() -> Option<Segment> {
+    Segment::from_parts(
+        Some(16_777_216),
+        Some(None),
+        Some(0),
+        Some(SectorSize::B512),
+        Some(Mode::XtsPlain64),
+    )
+}
 
 const OTHER_VALUES: &str = "'16777216' -> '32768'; \
     'dynamic' -> '0008192'; \
@@ -33,31 +35,34 @@ const OTHER_VALUES: &str = "'16777216' -> '32768'; \
     aes-xts-plain64','sector_size':512 \
     -> aes-cbc-essiv:sha256','sector_size':4096";
 
-const OTHERS: SegmentParts = SegmentParts {
-    offset: Some(32_768),
-    size: Some(Some(8192)),
-    iv_tweak: Some(18_446_744_073_709_551_615),
-    sector_size: Some(SectorSize::B4096),
-    mode: Some(Mode::CbcEssivSha256),
-};
-
-fn has_values(segment: &Segment, want: &SegmentParts) -> bool {
-    (Some(segment.offset) == want.offset)
-        & (Some(segment.iv_tweak) == want.iv_tweak)
-        & (Some(segment.size) == want.size)
-        & (Some(segment.sector_size) == want.sector_size)
-        & (Some(segment.mode) == want.mode)
+fn others() -> Option<Segment> {
+    Segment::from_parts(
+        Some(32_768),
+        Some(Some(8192)),
+        Some(18_446_744_073_709_551_615),
+        Some(SectorSize::B4096),
+        Some(Mode::CbcEssivSha256),
+    )
 }
 
-fn check_values(rt: &(impl Abort + AllocGlobal), changes: &str, want: &SegmentParts) {
+fn has_values(segment: &Segment, want: &Segment) -> bool {
+    (segment.offset == want.offset)
+        & (segment.iv_tweak == want.iv_tweak)
+        & (segment.size == want.size)
+        & (segment.sector_size == want.sector_size)
+        & (segment.mode == want.mode)
+}
+
+fn check_values(rt: &(impl Abort + AllocGlobal), changes: &str, want: Option<Segment>) {
     let found = segment(metadata(rt, changes), ATTACHED).expect(rt, "a segment");
-    assert_of(rt, changes, has_values(&found, want));
+    let want = want.expect(rt, "the segment that is wanted");
+    assert_of(rt, changes, has_values(&found, &want));
 }
 
 #[test]
 fn the_values_of_a_segment(rt: HostRuntime) {
-    check_values(&rt, "", &AS_IT_IS);
-    check_values(&rt, OTHER_VALUES, &OTHERS);
+    check_values(&rt, "", as_it_is());
+    check_values(&rt, OTHER_VALUES, others());
 }
 
 // With a detached header, any start that is a multiple of 512 bytes is fine.

@@ -5,7 +5,7 @@
 use crate::tests::shared::kept;
 use luks_cipher::{Mode, SectorCipher};
 use luks_header::sector_size::SectorSize;
-use luks_header::segment::{Segment, SegmentParts};
+use luks_header::segment::Segment;
 use luks_io::DeviceFault;
 use luks_io::read_ahead::ReadAheadSource;
 use luks_io::sink::{Sink, WriteFault};
@@ -80,14 +80,14 @@ pub fn segment_of(
     iv_tweak: u64,
     size: Option<u64>,
 ) -> Segment {
-    let parts = SegmentParts {
-        offset: Some(1000),
-        size: Some(size),
-        iv_tweak: Some(iv_tweak),
-        sector_size: Some(sector_size),
-        mode: Some(Mode::XtsPlain64),
-    };
-    Segment::from_parts(parts).expect(rt, "a segment")
+    let segment = Segment::from_parts(
+        Some(1000),
+        Some(size),
+        Some(iv_tweak),
+        Some(sector_size),
+        Some(Mode::XtsPlain64),
+    );
+    segment.expect(rt, "a segment")
 }
 
 /// No call fails.

@@ -6,7 +6,7 @@ use super::fixture::{NEVER, run_pieces, sink_of};
 use crate::tests::shared::{assert_of, counted};
 use luks_cipher::{Mode, SectorCipher};
 use luks_header::sector_size::SectorSize;
-use luks_header::segment::{Segment, SegmentParts};
+use luks_header::segment::Segment;
 use luks_kdf::{Hash, Work, af_merge, pbkdf2};
 use luks_payload::pump::Pump;
 use luks_payload::state::Step;
@@ -90,14 +90,14 @@ static HEADER: [(usize, &[u8]); 16] = [
 
 // The payload of two sectors, which starts at byte 36,864, under the volume key.
 fn payload(rt: &impl Abort) -> Pump<'static> {
-    let parts = SegmentParts {
-        offset: Some(36_864),
-        size: Some(None),
-        iv_tweak: Some(0),
-        sector_size: Some(SectorSize::B512),
-        mode: Some(Mode::XtsPlain64),
-    };
-    let segment = Segment::from_parts(parts).expect(rt, "a segment");
+    let segment = Segment::from_parts(
+        Some(36_864),
+        Some(None),
+        Some(0),
+        Some(SectorSize::B512),
+        Some(Mode::XtsPlain64),
+    );
+    let segment = segment.expect(rt, "a segment");
     let cipher = SectorCipher::new(Mode::XtsPlain64, KEY).expect(rt, "a key");
     Pump::new(segment, cipher, 0)
 }
