@@ -1,9 +1,11 @@
 //! The text of a JSON area as a tree of values.
 
 ghost use Rattle.std.specs.Prelude.{◌≡◌, ◌<◌, ◌⊎◌, ◌↔◌, Some, None, Ok, Err, IfOk, IfErr};
-ghost use Rattle.std.specs.Prelude.{if◌then◌else◌, length};
-ghost use Rattle.luks2_json.specs.Tree.{has_objects, is_object_at, tree_of};
+ghost use Rattle.std.specs.Prelude.{if◌then◌else◌, is_some, length};
+ghost use Rattle.luks2_json.specs.Member.{in_member};
+ghost use Rattle.luks2_json.specs.Tree.{has_objects, tree_of};
 ghost use Rattle.serde_json.specs.Errors.{IsMemory};
+ghost use Rattle.serde_json.specs.Find.{as_object};
 ghost use Rattle.serde_json.specs.View.{view as data_of};
 
 use luks_format::fault::HeaderFault;
@@ -32,7 +34,7 @@ impl Model for Metadata {
 
 // There is an object under this name.
 fn object_at(tree: &Value, name: &str) -> bool
-    ensures { result ≡ is_object_at name.now (data_of tree.now) }
+    ensures { result ≡ is_some (in_member name.now as_object (data_of tree.now)) }
 {
     match tree.get(name) {
         Some(member) => member.is_object(),
