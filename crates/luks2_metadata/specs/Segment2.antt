@@ -16,7 +16,7 @@ use Rattle.luks_format.specs.declared.sector_size.SectorSize.{SectorSize as Sect
 use Rattle.luks_format.specs.declared.segment.Segment.{Segment}
 use Rattle.luks2_metadata.specs.declared.bounds.Bounds.{Bounds}
 use Rattle.luks2_json.specs.Member.{decimal_member, has, string_is, is_type, string_member, integer_member, in_member}
-use Rattle.luks2_json.specs.Member.{encryption_mode}
+use Rattle.luks2_json.specs.Member.{encryption_mode, passes}
 use Rattle.serde_json.specs.Data.{Data, array, null, no_items, Members, no_members, member}
 use Rattle.serde_json.specs.Find.{as_object, get, get_member}
 
@@ -36,8 +36,7 @@ requires_nothing requirements =
 -- the configuration requires something of a program that reads the volume
 unfoldable pub has_requirement : Data → Bool
 has_requirement tree =
-    unwrap_or (option_map (λ requirements. not (requires_nothing requirements))
-    (in_member (codes "config") (get (codes "requirements")) tree)) false
+    passes (codes "config") (passes (codes "requirements") (λ value. not (requires_nothing value))) tree
 
 -- ---- the segment and its members
 
