@@ -35,12 +35,12 @@ use Rattle.luks_cipher.specs.Sector.{is_mode_key_length}
 use Rattle.luks2_json.specs.Numbered.{object_numbered}
 use Rattle.luks2_json.specs.Member.{base64_member, in_member, is_length_for}
 use Rattle.luks_format.proofs.TableLemmas.{none_holds}
+use Rattle.luks_format.specs.Table.{first_match}
 use Rattle.luks2_metadata.specs.Digest2.{digest2_for, digest2_of, digest_parts2_of, is_digest2, iterations_of_digest}
 use Rattle.luks2_metadata.specs.declared.bounds.Bounds.{Bounds}
 use Rattle.luks2_metadata.specs.Segment2.{payload2_start, payload_mode2_of}
 use Rattle.luks2_metadata.specs.Kdf2.{kdf2_of, is_argon2, variant_of}
-use Rattle.luks2_metadata.specs.Slot2.{form_reasons, form_refusal, material_reasons, material_refusal, place_reasons}
-use Rattle.luks2_metadata.specs.Slot2.{place_refusal, reason2_of, slot2_at, slot2_of}
+use Rattle.luks2_metadata.specs.Slot2.{form_reasons, material_reasons, place_reasons, reason2_of, slot2_at, slot2_of}
 use Rattle.luks2_metadata.specs.Slot2.{slot_parts2_of, verdict2_at, verdict2_of}
 use Rattle.serde_json.specs.Data.{Data}
 
@@ -135,9 +135,9 @@ pub record IsSmall (parts : SlotParts) : Type 0 where
   pub area_key : parts.area_key_bytes ≤ 64
 
 -- if there is no reason to skip a slot because of its material, its stripes and the lengths of its keys are small
-pub material_small : (payload_mode : Option Mode) (parts : SlotParts) → material_refusal payload_mode parts ≡ None
-    → IsSmall parts
-unfolding material_refusal
+pub material_small : (payload_mode : Option Mode) (parts : SlotParts)
+    → first_match (material_reasons payload_mode parts) ≡ None → IsSmall parts
+unfolding material_reasons
 material_small payload_mode parts none = grind (arith, common_steps, none_holds, key_sizes_few, not-false, stripes_few)
 
 -- a salt that Argon2 allows
@@ -146,17 +146,17 @@ IsSaltFor (Pbkdf2 hash iterations) salt = Unit {0}
 IsSaltFor (Argon2 parameters) salt = length salt < 2 ^ 32
 
 -- if there is no reason to skip a slot because of the function that derives its key, that function may be used
-pub allowed : (limits : Limits) (slot : Data) → form_refusal limits slot ≡ None
+pub allowed : (limits : Limits) (slot : Data) → first_match (form_reasons limits slot) ≡ None
     → has_known_hash (kdf2_of slot) ≡ true → is_allowed limits (kdf2_of slot) ≡ true
-unfolding form_refusal kdf2_of variant_of
+unfolding form_reasons kdf2_of variant_of
 allowed limits slot none known =
     let all = none_holds (form_reasons limits slot) none in
     grind (arith, common_steps)
 
 -- and its salt is one that Argon2 allows, if it is Argon2
-short_salt : (limits : Limits) (slot : Data) → form_refusal limits slot ≡ None
+short_salt : (limits : Limits) (slot : Data) → first_match (form_reasons limits slot) ≡ None
     → IsSaltFor (kdf2_of slot) (unwrap_or (in_member (codes "kdf") (base64_member (codes "salt")) slot) [])
-unfolding form_refusal kdf2_of is_argon2
+unfolding form_reasons kdf2_of is_argon2
 short_salt limits slot none =
     let all = none_holds (form_reasons limits slot) none in
     grind (arith, common_steps, ltb-true, and_parts, not-false)
@@ -177,16 +177,16 @@ pub record IsOf2 (tree : Data) (bounds : Bounds) (limits : Limits) (number : ℕ
 module _ (tree : Data) (bounds : Bounds) (limits : Limits) (number : ℕ) (slot : Data) where
   -- the parts of the table of which none holds
   tables : reason2_of tree bounds limits number slot ≡ None
-      → (form_refusal limits slot ≡ None)
-      × (material_refusal (payload_mode2_of tree bounds) (slot_parts2_of slot) ≡ None)
+      → (first_match (form_reasons limits slot) ≡ None)
+      × (first_match (material_reasons (payload_mode2_of tree bounds) (slot_parts2_of slot)) ≡ None)
       × (derivation_refusal limits (slot_parts2_of slot).derivation ≡ None)
-      × (place_refusal tree bounds limits.max_iterations number (slot_parts2_of slot) ≡ None)
+      × (first_match (place_reasons tree bounds limits.max_iterations number (slot_parts2_of slot)) ≡ None)
   unfolding reason2_of
   tables none = grind (arith, common_steps, none_of_both)
 
   pub no_reason : reason2_of tree bounds limits number slot ≡ None
       → NoReason tree bounds limits number (slot_parts2_of slot)
-  unfolding material_refusal place_refusal
+  unfolding material_reasons place_reasons
   no_reason none =
       let all = tables none in
       let parts = slot_parts2_of slot in

@@ -103,20 +103,9 @@ values_of parts = record {
 
 -- ---- the table of reasons
 
--- the slot's keys have valid lengths for their modes: the key of the key material for the area's mode, the volume key
--- for the payload's mode
-abbrev pub are_key_sizes : Option Mode → SlotParts → Bool
-are_key_sizes payload_mode parts =
-    is_length_for parts.area_mode parts.area_key_bytes && is_length_for payload_mode parts.key_bytes
-
--- the slot's key area is too small for the key material, or out of range
-abbrev pub area2_out_of_range : ℕ → Option ℕ → SlotParts → Bool
-area2_out_of_range end payload parts =
-    area_out_of_range end payload parts.area_offset parts.area_size (key_material_len parts.key_bytes parts.stripes)
-
 -- the reasons to skip a slot because of what it is and of the function that derives its key. Without limits for Argon2
 -- no key is derived by it
-abbrev pub form_reasons : Limits → Data → List (Bool × SkipReason)
+unfoldable pub form_reasons : Limits → Data → List (Bool × SkipReason)
 form_reasons limits slot =
     (not (is_type (codes "luks2") slot), Kind)
     ∷ (not (has_members slot), Member)
@@ -126,43 +115,34 @@ form_reasons limits slot =
     ∷ (is_some (variant_of slot) && not (passes (codes "kdf") is_argon2 slot), Member)
     ∷ []
 
--- the first of them
-unfoldable pub form_refusal : Limits → Data → Option SkipReason
-form_refusal limits slot = first_match (form_reasons limits slot)
-
--- the reasons because of the hash functions, the modes, the keys and the stripes
-abbrev pub material_reasons : Option Mode → SlotParts → List (Bool × SkipReason)
+-- the reasons because of the hash functions, the modes, the keys and the stripes. The key of the key material has to
+-- have a valid length for the area's mode, the volume key one for the payload's mode
+unfoldable pub material_reasons : Option Mode → SlotParts → List (Bool × SkipReason)
 material_reasons payload_mode parts =
     (not (has_known_hash parts.derivation) || is_none parts.af_hash, SkipHash)
     ∷ (is_none parts.area_mode, Encryption)
-    ∷ (not (are_key_sizes payload_mode parts), KeySize)
+    ∷ (not (is_length_for parts.area_mode parts.area_key_bytes && is_length_for payload_mode parts.key_bytes), KeySize)
     ∷ (stripes_out_of_range parts.stripes, Stripes)
     ∷ []
 
--- the first of them
-unfoldable pub material_refusal : Option Mode → SlotParts → Option SkipReason
-material_refusal payload_mode parts = first_match (material_reasons payload_mode parts)
-
 -- the reasons because of the area of the slot of this number, and of its digest
-abbrev pub place_reasons : Data → Bounds → Option ℕ → ℕ → SlotParts → List (Bool × SkipReason)
-place_reasons tree bounds max_iterations number parts =
-    (area2_out_of_range bounds.end (payload2_start tree bounds) parts, Area)
+unfoldable pub place_reasons : Data → Bounds → Option ℕ → ℕ → SlotParts → List (Bool × SkipReason)
+place_reasons tree bounds max_iterations number parts = (
+  area_out_of_range bounds.end (payload2_start tree bounds) parts.area_offset parts.area_size
+      (key_material_len parts.key_bytes parts.stripes),
+  Area,
+)
     ∷ (has_no_usable_digest max_iterations (digest2_for tree number), Digest)
     ∷ []
-
--- the first of them
-unfoldable pub place_refusal : Data → Bounds → Option ℕ → ℕ → SlotParts → Option SkipReason
-place_refusal tree bounds max_iterations number parts =
-    first_match (place_reasons tree bounds max_iterations number parts)
 
 -- the first reason to skip the slot of this number, in a header with these bounds
 unfoldable pub reason2_of : Data → Bounds → Limits → ℕ → Data → Option SkipReason
 reason2_of tree bounds limits number slot =
     let parts = slot_parts2_of slot in
-    option_or (form_refusal limits slot)
-    (option_or (material_refusal (payload_mode2_of tree bounds) parts)
+    option_or (first_match (form_reasons limits slot))
+    (option_or (first_match (material_reasons (payload_mode2_of tree bounds) parts))
     (option_or (derivation_refusal limits parts.derivation)
-    (place_refusal tree bounds limits.max_iterations number parts)))
+    (first_match (place_reasons tree bounds limits.max_iterations number parts))))
 
 -- ---- verdicts
 

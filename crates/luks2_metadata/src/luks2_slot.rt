@@ -3,9 +3,10 @@
 ghost use Rattle.std.specs.Prelude.{◌≡◌, ◌≤◌, ◌&&◌, [], codes, IfOk, option_map, unwrap_or};
 ghost use Rattle.luks_format.specs.Rule.{area_out_of_range, key_material_len};
 ghost use Rattle.luks_format.specs.Slot.{has_no_usable_digest, verdict_kind_of};
+ghost use Rattle.luks_format.specs.Table.{first_match};
 ghost use Rattle.luks2_json.specs.Member.{base64_member, in_member, is_length_for};
 ghost use Rattle.luks2_metadata.specs.Digest2.{digest2_for};
-ghost use Rattle.luks2_metadata.specs.Slot2.{form_refusal, material_refusal, reason2_of};
+ghost use Rattle.luks2_metadata.specs.Slot2.{form_reasons, material_reasons, reason2_of};
 ghost use Rattle.luks2_metadata.specs.Slot2.{slot2_at, slot2_of, slot_parts2_of};
 ghost use Rattle.luks2_metadata.specs.Slot2.{values_of, verdict2_at, verdict2_of};
 ghost use Rattle.serde_json.specs.View.{view as data_of};
@@ -74,9 +75,9 @@ fn has_no_usable_digest(tree: &Value, limit: Option<u32>, number: u8) -> bool
 }
 
 // The first reason to skip a slot because of what it is, and of the function that derives its key.
-#[tactic(auto, unfolding(crate::specs::Slot2::form_refusal))]
+#[tactic(auto, unfolding(crate::specs::Slot2::form_reasons))]
 fn form_refusal(limits: Limits, slot: &Value) -> Option<SkipReason>
-    ensures { result ≡ form_refusal limits (data_of slot.now) }
+    ensures { result ≡ first_match (form_reasons limits (data_of slot.now)) }
 {
     let no_argon2 = limits.argon2.is_none();
     let variant = variant(slot);
@@ -98,14 +99,15 @@ fn form_refusal(limits: Limits, slot: &Value) -> Option<SkipReason>
 }
 
 // The first reason because of the hash functions, the modes, the keys and the stripes.
-#[tactic(auto, unfolding(crate::specs::Slot2::material_refusal, crate::specs::Slot2::values_of))]
+#[tactic(auto, unfolding(crate::specs::Slot2::material_reasons, crate::specs::Slot2::values_of))]
 fn material_refusal(
     slot: &Value,
     payload_mode: Option<Mode>,
     values: SlotValues,
 ) -> Option<SkipReason>
     requires { values ≡ values_of (slot_parts2_of (data_of slot.now)) }
-    ensures { result ≡ material_refusal payload_mode (slot_parts2_of (data_of slot.now)) }
+    ensures { result
+        ≡ first_match (material_reasons payload_mode (slot_parts2_of (data_of slot.now))) }
 {
     if !values.derivation.has_known_hash() || values.af_hash.is_none() {
         Some(SkipReason::Hash)
@@ -121,7 +123,7 @@ fn material_refusal(
 }
 
 // The first reason to skip the slot of this number, whose members have these values.
-#[tactic(auto, unfolding(crate::specs::Slot2::reason2_of, crate::specs::Slot2::place_refusal, crate::specs::Slot2::values_of,))]
+#[tactic(auto, unfolding(crate::specs::Slot2::reason2_of, crate::specs::Slot2::place_reasons, crate::specs::Slot2::values_of,))]
 fn reason(
     tree: &Value,
     bounds: Bounds,

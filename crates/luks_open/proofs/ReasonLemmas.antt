@@ -26,8 +26,8 @@ use Rattle.luks_format.proofs.TableLemmas.{All-ascending}
 use Rattle.luks2_json.specs.Numbered.{object_numbered}
 use Rattle.luks2_metadata.specs.Kdf2.{kdf2_of}
 use Rattle.luks2_metadata.specs.Segment2.{payload_mode2_of}
-use Rattle.luks2_metadata.specs.Slot2.{form_reasons, form_refusal, material_reasons, material_refusal, place_reasons}
-use Rattle.luks2_metadata.specs.Slot2.{place_refusal, reason2_of, slot2_of, slot_parts2_of, verdict2_at, verdict2_of}
+use Rattle.luks2_metadata.specs.Slot2.{form_reasons, material_reasons, place_reasons, reason2_of}
+use Rattle.luks2_metadata.specs.Slot2.{slot2_of, slot_parts2_of, verdict2_at, verdict2_of}
 use Rattle.luks2_metadata.specs.declared.bounds.Bounds.{Bounds}
 use Rattle.luks2_metadata.proofs.SlotLemmas.{allowed}
 use Rattle.luks_header.specs.Header.{bounds2_of}
@@ -112,13 +112,13 @@ module _ (header : Header) (limits : Limits) (none : is_none limits.argon2 ≡ t
   -- a key slot of LUKS2
   other2 : (tree : Data) (bounds : Bounds) (number : ℕ) (slot : Data)
       → SkipsOther (verdict2_of tree bounds limits number slot)
-  unfolding verdict2_of reason2_of form_refusal material_refusal place_refusal slot_parts2_of
+  unfolding verdict2_of reason2_of form_reasons material_reasons place_reasons slot_parts2_of
   other2 tree bounds number slot =
       let parts = slot_parts2_of slot in
       verdict_other (reason2_of tree bounds limits number slot) (slot2_of tree bounds limits number slot)
-      (first_of_two (form_refusal limits slot) _
+      (first_of_two (first_match (form_reasons limits slot)) _
       (first_other (form_reasons limits slot) (refl, (refl, (refl, (refl, (refl, (refl, tt))))))) (λ form.
-      first_of_two (material_refusal (payload_mode2_of tree bounds) parts) _
+      first_of_two (first_match (material_reasons (payload_mode2_of tree bounds) parts)) _
       (first_other (material_reasons (payload_mode2_of tree bounds) parts) (refl, (refl, (refl, (refl, tt))))) (λ material.
       first_of_two (derivation_refusal limits parts.derivation) _
       (other_derivation (kdf2_of slot) (allowed limits slot form)) (λ derivation.

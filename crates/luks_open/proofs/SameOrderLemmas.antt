@@ -21,7 +21,7 @@ use Rattle.luks_format.specs.declared.slot.Verdict.TheVariants.{Usable}
 use Rattle.luks_format.proofs.TableLemmas.{none_holds}
 use Rattle.luks2_json.specs.Numbered.{object_numbered}
 use Rattle.luks2_metadata.specs.Kdf2.{derivation_by, is_kdf_type, kdf2_of, variant_if, variant_of}
-use Rattle.luks2_metadata.specs.Slot2.{form_reasons, form_refusal, reason2_of, slot_parts2_of, slot2_of, verdict2_at, verdict2_of}
+use Rattle.luks2_metadata.specs.Slot2.{form_reasons, reason2_of, slot_parts2_of, slot2_of, verdict2_at, verdict2_of}
 use Rattle.luks2_metadata.specs.declared.bounds.Bounds.{Bounds}
 use Rattle.luks_header.specs.Header.{bounds2_of}
 use Rattle.luks_header.specs.HeaderSegment.{segment_of}
@@ -49,8 +49,9 @@ and_false true = refl
 and_false false = refl
 
 module _ (limits : Limits) (slot : Data) (without_variant : variant_of slot ≡ None) where
-  same_form : form_refusal limits slot ≡ form_refusal (without_argon2 limits.max_iterations) slot
-  unfolding form_refusal variant_of
+  same_form : first_match (form_reasons limits slot)
+      ≡ first_match (form_reasons (without_argon2 limits.max_iterations) slot)
+  unfolding form_reasons variant_of
   same_form =
       let none = no_variant_of (is_kdf_type (codes "argon2i") slot) (is_kdf_type (codes "argon2id") slot)
       without_variant in
@@ -80,8 +81,8 @@ module _ (limits : Limits) (slot : Data) (without_variant : variant_of slot ≡ 
 -- ---- key slots that can be tried without Argon2
 
 module _ (tree : Data) (bounds : Bounds) (limit : Option ℕ) (number : ℕ) (slot : Data) (usable : Slot) where
-  no_variant : form_refusal (without_argon2 limit) slot ≡ None → variant_of slot ≡ None
-  unfolding form_refusal variant_of
+  no_variant : first_match (form_reasons (without_argon2 limit) slot) ≡ None → variant_of slot ≡ None
+  unfolding form_reasons variant_of
   no_variant none =
       let all = none_holds (form_reasons (without_argon2 limit) slot) none in
       by (is_kdf_type (codes "argon2i") slot) (is_kdf_type (codes "argon2id") slot) all.1.1.0 all.1.1.1.0
@@ -103,7 +104,7 @@ module _ (tree : Data) (bounds : Bounds) (limit : Option ℕ) (number : ℕ) (sl
 
   is_pbkdf2_alone : verdict2_of tree bounds (without_argon2 limit) number slot ≡ Usable usable → variant_of slot ≡ None
   unfolding reason2_of
-  is_pbkdf2_alone is = no_variant (by (form_refusal (without_argon2 limit) slot) _ (no_reason is))
+  is_pbkdf2_alone is = no_variant (by (first_match (form_reasons (without_argon2 limit) slot)) _ (no_reason is))
     where
       by : (first second : Option SkipReason) → option_or first second ≡ None → first ≡ None
       by None second is = refl

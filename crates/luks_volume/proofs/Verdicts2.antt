@@ -43,8 +43,9 @@ use Rattle.luks_format.specs.Derivation.{derivation_refusal, without_argon2}
 use Rattle.luks_format.specs.declared.derivation.Derivation.TheVariants.{Pbkdf2}
 use Rattle.luks_format.specs.declared.slot.SlotParts.{SlotParts}
 use Rattle.luks2_metadata.specs.Kdf2.{kdf2_of, variant_of}
-use Rattle.luks2_metadata.specs.Slot2.{form_refusal, has_members, is_af, is_area, is_kdf, is_pbkdf2, material_refusal}
-use Rattle.luks2_metadata.specs.Slot2.{place_refusal, priority_of, reason2_of, slot2_of, slot_parts2_of, verdict2_at}
+use Rattle.luks_format.specs.Table.{first_match}
+use Rattle.luks2_metadata.specs.Slot2.{form_reasons, has_members, is_af, is_area, is_kdf, is_pbkdf2, material_reasons}
+use Rattle.luks2_metadata.specs.Slot2.{place_reasons, priority_of, reason2_of, slot2_of, slot_parts2_of, verdict2_at}
 use Rattle.luks2_metadata.specs.Slot2.{verdict2_of}
 use Rattle.luks_format.specs.Rule.{area_out_of_range, iterations_out_of_range, key_material_len, stripes_out_of_range}
 use Rattle.luks_format.specs.Slot.{has_no_usable_digest}
@@ -314,20 +315,21 @@ module _ (p : Seal2) (fits : AreParameters2 p) (typed : AreTyped2 p) where
         (omega (arith, ends_before, material_len)) fits.offset.1)
 
     -- no reason to skip the slot holds
-    form_ok : form_refusal (without_argon2 None) (keyslot_object p slot) ≡ None
-    unfolding form_refusal variant_of keyslot_object kdf_object string_is string_member
+    form_ok : first_match (form_reasons (without_argon2 None) (keyslot_object p slot)) ≡ None
+    unfolding form_reasons variant_of keyslot_object kdf_object string_is string_member
     form_ok = rw members_ok refl
 
-    material_ok : material_refusal (payload_mode2_of (metadata_of p) (bounds_of p)) (parts_of p slot) ≡ None
-    unfolding material_refusal
+    material_ok : first_match (material_reasons (payload_mode2_of (metadata_of p) (bounds_of p)) (parts_of p slot))
+        ≡ None
+    unfolding material_reasons
     material_ok = rw (keys_fit, stripes_ok) refl
 
     derivation_ok : derivation_refusal (without_argon2 None) (Pbkdf2 (Some slot.hash) slot.iterations) ≡ None
     unfolding derivation_refusal
     derivation_ok = rw iterations_ok refl
 
-    place_ok : place_refusal (metadata_of p) (bounds_of p) None slot.number (parts_of p slot) ≡ None
-    unfolding place_refusal
+    place_ok : first_match (place_reasons (metadata_of p) (bounds_of p) None slot.number (parts_of p slot)) ≡ None
+    unfolding place_reasons
     place_ok = rw (area_ok, digest_ok) refl
 
     no_reasons : reason2_of (metadata_of p) (bounds_of p) (without_argon2 None) slot.number (keyslot_object p slot)
