@@ -13,7 +13,7 @@ use Rattle.luks_cipher.proofs.ModeLemmas.{max_mode_key}
 use Rattle.luks_format.specs.Derivation.{argon2_refusal, derivation_refusal, has_known_hash, is_allowed, is_derivable}
 use Rattle.luks_format.specs.Derivation.{lanes_out_of_range, memory_out_of_range, passes_out_of_range}
 use Rattle.luks_format.specs.Rule.{exceeds, iterations_out_of_range, area_out_of_range}
-use Rattle.luks_format.specs.Rule.{is_digest, key_material_len, stripes_out_of_range, max_iteration_count}
+use Rattle.luks_format.specs.Rule.{is_digest, key_material_len, stripes_out_of_range}
 use Rattle.luks_format.specs.Derivation.{is_in_range}
 use Rattle.luks_format.specs.Slot.{has_no_usable_digest, material_end}
 use Rattle.luks_format.specs.Slot.{slot_from, verdict_kind_of}
@@ -58,7 +58,7 @@ unfolding digest2_of
 out_of_range digest is none = rw is (digest_from-no (digest_parts2_of digest) none)
 
 -- iterations that do not fit into four bytes are out of range
-pub too_many : (iterations len : ℕ) → max_iteration_count < iterations → is_digest iterations len ≡ false
+pub too_many : (iterations len : ℕ) → 4294967295 < iterations → is_digest iterations len ≡ false
 unfolding is_digest iterations_out_of_range
 too_many iterations len many = grind (arith, nat_tests)
 

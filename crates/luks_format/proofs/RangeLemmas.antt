@@ -9,7 +9,7 @@ use Rattle.luks_format.specs.Area.{max_loaded_len}
 use Rattle.luks_format.specs.Derivation.{IsDerivable, is_derivable, is_in_range, lanes_out_of_range}
 use Rattle.luks_format.specs.Derivation.{memory_out_of_range, passes_out_of_range}
 use Rattle.luks_format.specs.Rule.{is_digest, iterations_out_of_range}
-use Rattle.luks_format.specs.Rule.{max_iteration_count, max_stripes, stripes_out_of_range}
+use Rattle.luks_format.specs.Rule.{stripes_out_of_range}
 use Rattle.luks_format.specs.SectorSize.{bytes_of, has_whole_sectors}
 use Rattle.luks_format.specs.Slot.{material_end}
 use Rattle.luks_format.specs.declared.derivation.Derivation.{Derivation}
@@ -35,7 +35,7 @@ derivable (Argon2 parameters) is = record {
 pub record InRange (how : Derivation) (stripes end : ℕ) : Type 0 where
   pub derivation : IsDerivable how
   pub some_stripes : 1 ≤ stripes
-  pub few_stripes : stripes ≤ max_stripes
+  pub few_stripes : stripes ≤ 4000
   pub loadable : end ≤ max_loaded_len
 
 pub in_range : (derivation : Derivation) (stripes end : ℕ) → is_in_range derivation stripes end ≡ true
@@ -50,7 +50,7 @@ slot_range slot = in_range slot.parts.derivation slot.parts.stripes (material_en
 -- the bounds of the numbers of a digest that can be used
 pub record IsDigest (iterations len : ℕ) : Type 0 where
   pub some_iterations : 1 ≤ iterations
-  pub few_iterations : iterations ≤ max_iteration_count
+  pub few_iterations : iterations ≤ 4294967295
   pub enough : 20 ≤ len
   pub few : len ≤ 64
 

@@ -3,7 +3,7 @@
 use Rattle.std.specs.Prelude.{ℕ, ◌*◌, ◌^◌, ◌<◌, ◌≤◌, ◌==◌, ◌&&◌, ◌||◌, not, nat_le, nat_lt, Bool, true, [], ◌∷◌, Option}
 use Rattle.std.specs.Prelude.{Some, None, if◌then◌else◌, is_some, option_map}
 use Rattle.luks_format.specs.Area.{max_loaded_len}
-use Rattle.luks_format.specs.Rule.{exceeds, iterations_out_of_range, max_iteration_count, stripes_out_of_range}
+use Rattle.luks_format.specs.Rule.{exceeds, iterations_out_of_range, stripes_out_of_range}
 use Rattle.luks_format.specs.Table.{first_match}
 use Rattle.luks_format.specs.declared.derivation.Argon2Limits.{Argon2Limits}
 use Rattle.luks_format.specs.declared.derivation.Argon2Parameters.{Argon2Parameters}
@@ -44,7 +44,7 @@ is_in_range derivation stripes end = is_derivable derivation && not (stripes_out
 -- the bounds of the iterations of PBKDF2
 pub record AreIterations (iterations : ℕ) : Type 0 where
   pub some : 1 ≤ iterations
-  pub few : iterations ≤ max_iteration_count
+  pub few : iterations ≤ 4294967295
 
 -- the bounds of the parameters of Argon2
 pub record AreParameters (parameters : Argon2Parameters) : Type 0 where

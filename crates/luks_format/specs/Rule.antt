@@ -9,26 +9,17 @@ use Rattle.luks_format.specs.Area.{max_loaded_len}
 abbrev pub max_slots : ℕ
 max_slots = 32
 
--- the largest number of stripes in a slot's key material
-abbrev pub max_stripes : ℕ
-max_stripes = 4000
-
--- the largest number of PBKDF2 iterations: the largest that fits into four bytes
-abbrev pub max_iteration_count : ℕ
-max_iteration_count = 4294967295
-
 -- the number is above the limit, if there is one
 abbrev pub exceeds : Option ℕ → ℕ → Bool
 exceeds limit n = option_map_or (λ most. nat_lt most n) limit false
 
 -- this number of iterations is refused: 0, more than fits into four bytes, or above the limit
 unfoldable pub iterations_out_of_range : Option ℕ → ℕ → Bool
-iterations_out_of_range limit iterations = iterations == 0 || nat_lt max_iteration_count iterations
-    || exceeds limit iterations
+iterations_out_of_range limit iterations = iterations == 0 || nat_lt 4294967295 iterations || exceeds limit iterations
 
 -- the number of stripes is not 1 to 4000
 unfoldable pub stripes_out_of_range : ℕ → Bool
-stripes_out_of_range stripes = stripes == 0 || nat_lt max_stripes stripes
+stripes_out_of_range stripes = stripes == 0 || nat_lt 4000 stripes
 
 -- the number of bytes of a slot's key material: one key for each stripe, rounded up to whole sectors of 512 bytes
 unfoldable pub key_material_len : ℕ → ℕ → ℕ

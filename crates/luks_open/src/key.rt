@@ -5,7 +5,7 @@ ghost use Rattle.std.specs.Int.{div_ceil};
 ghost use Rattle.luks_cipher.specs.Sector.{is_key_length};
 ghost use Rattle.luks_kdf.specs.Hash.{digest_len};
 ghost use Rattle.luks_kdf.specs.Pbkdf2.{capped, derived_key};
-ghost use Rattle.luks_format.specs.Rule.{max_stripes, key_material_len};
+ghost use Rattle.luks_format.specs.Rule.{key_material_len};
 ghost use Rattle.luks_open.specs.Candidate.{recovered};
 
 use crate::material;
@@ -73,7 +73,7 @@ impl Key {
     ) -> Key
         requires key_bytes { is_key_length len ≡ true }
         requires some { 1 ≤ stripes }
-        requires few { stripes ≤ max_stripes }
+        requires few { stripes ≤ 4000 }
         requires there { offset + key_material_len len stripes ≤ length image.now }
         ensures { result ≡ recovered af key.now image.now offset len stripes }
     {

@@ -7,7 +7,7 @@ ghost use Rattle.luks_cipher.specs.Sector.{is_key_length};
 ghost use Rattle.luks_cipher.specs.Xts.{joined};
 ghost use Rattle.luks_kdf.specs.declared.hash.Hash.{Hash as AnyHash};
 ghost use Rattle.luks_kdf.specs.Stripes.{splitter_after};
-ghost use Rattle.luks_format.specs.Rule.{max_stripes, key_material_len};
+ghost use Rattle.luks_format.specs.Rule.{key_material_len};
 ghost use Rattle.luks_open.specs.Candidate.{material_sector, recovered};
 
 use luks_cipher::SectorCipher;
@@ -77,7 +77,7 @@ fn recover_by(
     requires capacity { length sectors.old ≡ 1024 }
     requires key_bytes { is_key_length (length out.old) ≡ true }
     requires some { 1 ≤ stripes }
-    requires few { stripes ≤ max_stripes }
+    requires few { stripes ≤ 4000 }
     requires there { offset + key_material_len (length out.old) stripes ≤ length image.now }
     ensures { out.new ≡ recovered af key.now image.now offset (length out.old) stripes }
 {
@@ -109,7 +109,7 @@ pub(crate) fn recover(
 )
     requires key_bytes { is_key_length (length out.old) ≡ true }
     requires some { 1 ≤ stripes }
-    requires few { stripes ≤ max_stripes }
+    requires few { stripes ≤ 4000 }
     requires there { offset + key_material_len (length out.old) stripes ≤ length image.now }
     ensures { out.new ≡ recovered af key.now image.now offset (length out.old) stripes }
 {

@@ -23,7 +23,7 @@ use Rattle.luks_kdf.proofs.BytesLemmas.{length-xor}
 use Rattle.luks_kdf.proofs.StripesLemmas.{length-splitter_block}
 use Rattle.luks_format.specs.Rule.{key_material_len, area_out_of_range, is_digest}
 use Rattle.luks_format.specs.Rule.{iterations_out_of_range}
-use Rattle.luks_format.specs.Rule.{max_iteration_count, max_stripes, stripes_out_of_range}
+use Rattle.luks_format.specs.Rule.{stripes_out_of_range}
 use Rattle.luks_format.specs.declared.slot.SlotParts.{SlotParts}
 use Rattle.luks_volume.specs.Sealed.{IsMaterial, IsStoredEncrypted}
 use Rattle.luks_volume.proofs.SectorLemmas.{length-sectors_encrypted, sectors_are_stored}
@@ -208,12 +208,12 @@ pub iterations_fit : (iterations : ℕ) → 1 ≤ iterations → iterations < 2 
 unfolding iterations_out_of_range
 iterations_fit iterations some few =
     let not_none : iterations ≢ 0 = λ none. omega (arith, some, none) in
-    rw (ne_eqb iterations 0 not_none, le-ltb max_iteration_count iterations (omega arith)) refl
+    rw (ne_eqb iterations 0 not_none, le-ltb 4294967295 iterations (omega arith)) refl
 
 pub stripes_fit : (stripes : ℕ) → 1 ≤ stripes → stripes ≤ 4000 → stripes_out_of_range stripes ≡ false
 unfolding stripes_out_of_range
 stripes_fit stripes some few =
-    rw (ne_eqb stripes 0 (λ none. omega (arith, some, none)), le-ltb max_stripes stripes few) refl
+    rw (ne_eqb stripes 0 (λ none. omega (arith, some, none)), le-ltb 4000 stripes few) refl
 
 pub digest_fits : (iterations len : ℕ) → 1 ≤ iterations → iterations < 2 ^ 32 → 20 ≤ len → len ≤ 64
     → is_digest iterations len ≡ true
