@@ -211,8 +211,7 @@ module _ (tree : Data) (bounds : Bounds) (limits : Limits) (number : ℕ) (slot 
   pub slot_there : reason2_of tree bounds limits number slot ≡ None
       → (digest : KeyDigest) × (digest2_for tree number ≡ Some digest)
       × (is : are_in_range (slot_parts2_of slot) ≡ true)
-      × (slot2_of tree bounds limits number slot ≡ Some (slot_of (slot_parts2_of slot) digest is))
-  unfolding slot2_of
+      × (slot_from (slot_parts2_of slot) (digest2_for tree number) ≡ Some (slot_of (slot_parts2_of slot) digest is))
   slot_there none =
       let all = no_reason none in
       let there = digest_there limits.max_iterations (digest2_for tree number) all.digest in
@@ -220,7 +219,7 @@ module _ (tree : Data) (bounds : Bounds) (limits : Limits) (number : ℕ) (slot 
       let made : slot_from (slot_parts2_of slot) (digest2_for tree number)
       ≡ Some (slot_of (slot_parts2_of slot) there.0 is) =
       ap (slot_from (slot_parts2_of slot)) there.1 ∙ slot_from-yes (slot_parts2_of slot) there.0 is in
-      (there.0, there.1, is, rw none made)
+      (there.0, there.1, is, made)
 
   -- the verdict on it, without what is needed to open it
   pub usable_verdict : reason2_of tree bounds limits number slot ≡ None
@@ -233,12 +232,14 @@ module _ (tree : Data) (bounds : Bounds) (limits : Limits) (number : ℕ) (slot 
 
   -- if the verdict is that the slot can be tried, this is what is needed to open it, and it agrees with the header
   usable_is : (usable : Slot) → verdict2_of tree bounds limits number slot ≡ Usable usable
-      → IsOf2 tree bounds limits number usable × (slot2_of tree bounds limits number slot ≡ Some usable)
-  unfolding verdict2_of slot_of area_out_of_range slot_parts2_of
+      → IsOf2 tree bounds limits number usable
+      × (slot_from (slot_parts2_of slot) (digest2_for tree number) ≡ Some usable)
+      × (slot2_of tree bounds limits number slot ≡ Some usable)
+  unfolding verdict2_of slot2_of slot_of area_out_of_range slot_parts2_of
   usable_is usable is =
       let parts = slot_parts2_of slot in
       let verdict = of_usable (reason2_of tree bounds limits number slot)
-      (slot2_of tree bounds limits number slot) usable is in
+      (slot_from parts (digest2_for tree number)) usable is in
       let no = no_reason verdict.0 in
       let form = (tables verdict.0).0 in
       let there = slot_there verdict.0 in
@@ -256,7 +257,7 @@ module _ (tree : Data) (bounds : Bounds) (limits : Limits) (number : ℕ) (slot 
         before_payload = before.1;
         digest = there.1;
       } in
-      (subst (IsOf2 tree bounds limits number) (sym same) known, verdict.1)
+      (subst (IsOf2 tree bounds limits number) (sym same) known, verdict.1, rw verdict.0 verdict.1)
 
 -- the same for the slot with a number
 pub usable2_at : (tree : Data) (bounds : Bounds) (limits : Limits) (number : ℕ) (usable : Slot)
@@ -267,26 +268,19 @@ usable2_at tree bounds limits number usable is =
     let slot = mapped (verdict2_of tree bounds limits number) (object_numbered (codes "keyslots") tree number)
     (Usable usable) is in
     let known = usable_is tree bounds limits number slot.0 usable slot.2 in
-    (known.0, ap (option_and_then (slot2_of tree bounds limits number)) slot.1 ∙ known.1)
+    (known.0, ap (option_and_then (slot2_of tree bounds limits number)) slot.1 ∙ known.2)
 
 -- what is needed to open a slot that can be tried is made from its parts and its digest, whatever the limits are
 made2_at : (tree : Data) (bounds : Bounds) (limits : Limits) (number : ℕ) (usable : Slot)
     → verdict2_at tree bounds limits number ≡ Some (Usable usable)
     → option_and_then (λ slot. slot_from (slot_parts2_of slot) (digest2_for tree number))
     (object_numbered (codes "keyslots") tree number) ≡ Some usable
-unfolding verdict2_at slot2_of
+unfolding verdict2_at
 made2_at tree bounds limits number usable is =
     let slot = mapped (verdict2_of tree bounds limits number) (object_numbered (codes "keyslots") tree number)
     (Usable usable) is in
     let known = usable_is tree bounds limits number slot.0 usable slot.2 in
-    ap (option_and_then (λ slot. slot_from (slot_parts2_of slot) (digest2_for tree number))) slot.1
-    ∙ by (is_none (reason2_of tree bounds limits number slot.0)) slot.0 known.1
-  where
-    by : (test : Bool) (slot : Data)
-        → (if test then slot_from (slot_parts2_of slot) (digest2_for tree number) else None) ≡ Some usable
-        → slot_from (slot_parts2_of slot) (digest2_for tree number) ≡ Some usable
-    by true slot h = h
-    by false slot h = absurd cc
+    ap (option_and_then (λ slot. slot_from (slot_parts2_of slot) (digest2_for tree number))) slot.1 ∙ known.1
 
 pub same_slot2 : (tree : Data) (bounds : Bounds) (limits limits' : Limits) (number : ℕ) (usable usable' : Slot)
     → verdict2_at tree bounds limits number ≡ Some (Usable usable)

@@ -156,7 +156,7 @@ slot2_of tree bounds limits number slot =
 -- the verdict on the slot of this number
 unfoldable pub verdict2_of : Data → Bounds → Limits → ℕ → Data → Verdict
 verdict2_of tree bounds limits number slot =
-    verdict_by (reason2_of tree bounds limits number slot) (slot2_of tree bounds limits number slot)
+    verdict_by (reason2_of tree bounds limits number slot) (slot_from (slot_parts2_of slot) (digest2_for tree number))
 
 -- the verdict on the key slot of this number, if there is one
 unfoldable pub verdict2_at : Data → Bounds → Limits → ℕ → Option Verdict

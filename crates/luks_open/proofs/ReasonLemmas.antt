@@ -8,7 +8,7 @@ use Rattle.std.proofs.lemmas.Option.{same_Some}
 use Rattle.serde_json.specs.Data.{Data}
 use Rattle.luks_format.specs.Derivation.{derivation_refusal, has_known_hash, is_allowed}
 use Rattle.luks_format.specs.Rule.{iterations_out_of_range, max_slots}
-use Rattle.luks_format.specs.Slot.{verdict_by}
+use Rattle.luks_format.specs.Slot.{slot_from, verdict_by}
 use Rattle.luks_format.specs.Slot1.{is_disabled, slot1_of, slot_reasons1, verdict1_at, verdict1_of}
 use Rattle.luks_format.specs.Table.{ascending, first_match}
 use Rattle.luks_format.specs.declared.derivation.Argon2Limits.{Argon2Limits}
@@ -24,10 +24,11 @@ use Rattle.luks_format.specs.declared.slot.Verdict.{Verdict}
 use Rattle.luks_format.specs.declared.slot.Verdict.TheVariants.{Usable, Disabled, Skipped}
 use Rattle.luks_format.proofs.TableLemmas.{All-ascending}
 use Rattle.luks2_json.specs.Numbered.{object_numbered}
+use Rattle.luks2_metadata.specs.Digest2.{digest2_for}
 use Rattle.luks2_metadata.specs.Kdf2.{kdf2_of}
 use Rattle.luks2_metadata.specs.Segment2.{payload_mode2_of}
 use Rattle.luks2_metadata.specs.Slot2.{form_reasons, material_reasons, place_reasons, reason2_of}
-use Rattle.luks2_metadata.specs.Slot2.{slot2_of, slot_parts2_of, verdict2_at, verdict2_of}
+use Rattle.luks2_metadata.specs.Slot2.{slot_parts2_of, verdict2_at, verdict2_of}
 use Rattle.luks2_metadata.specs.declared.bounds.Bounds.{Bounds}
 use Rattle.luks2_metadata.proofs.SlotLemmas.{allowed}
 use Rattle.luks_header.specs.Header.{bounds2_of}
@@ -115,7 +116,7 @@ module _ (header : Header) (limits : Limits) (none : is_none limits.argon2 ≡ t
   unfolding verdict2_of reason2_of form_reasons material_reasons place_reasons slot_parts2_of
   other2 tree bounds number slot =
       let parts = slot_parts2_of slot in
-      verdict_other (reason2_of tree bounds limits number slot) (slot2_of tree bounds limits number slot)
+      verdict_other (reason2_of tree bounds limits number slot) (slot_from parts (digest2_for tree number))
       (first_of_two (first_match (form_reasons limits slot)) _
       (first_other (form_reasons limits slot) (refl, (refl, (refl, (refl, (refl, (refl, tt))))))) (λ form.
       first_of_two (first_match (material_reasons (payload_mode2_of tree bounds) parts)) _

@@ -14,14 +14,15 @@ use Rattle.luks_format.specs.declared.fault.HeaderFault.{HeaderFault}
 use Rattle.luks_format.specs.declared.refusal.SegmentFault.{SegmentFault}
 use Rattle.luks_format.specs.declared.refusal.SkipReason.{SkipReason}
 use Rattle.luks_format.specs.declared.segment.Segment.{Segment}
-use Rattle.luks_format.specs.Slot.{verdict_by}
+use Rattle.luks_format.specs.Slot.{slot_from, verdict_by}
 use Rattle.luks_format.specs.declared.slot.Slot.{Slot}
 use Rattle.luks_format.specs.declared.slot.Verdict.{Verdict}
 use Rattle.luks_format.specs.declared.slot.Verdict.TheVariants.{Usable}
 use Rattle.luks_format.proofs.TableLemmas.{none_holds}
 use Rattle.luks2_json.specs.Numbered.{object_numbered}
+use Rattle.luks2_metadata.specs.Digest2.{digest2_for}
 use Rattle.luks2_metadata.specs.Kdf2.{derivation_by, is_kdf_type, kdf2_of, variant_if, variant_of}
-use Rattle.luks2_metadata.specs.Slot2.{form_reasons, reason2_of, slot_parts2_of, slot2_of, verdict2_at, verdict2_of}
+use Rattle.luks2_metadata.specs.Slot2.{form_reasons, reason2_of, slot_parts2_of, verdict2_at, verdict2_of}
 use Rattle.luks2_metadata.specs.declared.bounds.Bounds.{Bounds}
 use Rattle.luks_header.specs.Header.{bounds2_of}
 use Rattle.luks_header.specs.HeaderSegment.{segment_of}
@@ -75,7 +76,7 @@ module _ (limits : Limits) (slot : Data) (without_variant : variant_of slot ≡ 
 
   same_verdict2 : (tree : Data) (bounds : Bounds) (number : ℕ) → verdict2_of tree bounds limits number slot
       ≡ verdict2_of tree bounds (without_argon2 limits.max_iterations) number slot
-  unfolding verdict2_of slot2_of
+  unfolding verdict2_of
   same_verdict2 tree bounds number = rw (same_reason tree bounds number) refl
 
 -- ---- key slots that can be tried without Argon2
@@ -96,7 +97,7 @@ module _ (tree : Data) (bounds : Bounds) (limit : Option ℕ) (number : ℕ) (sl
       → reason2_of tree bounds (without_argon2 limit) number slot ≡ None
   unfolding verdict2_of
   no_reason = by (reason2_of tree bounds (without_argon2 limit) number slot)
-      (slot2_of tree bounds (without_argon2 limit) number slot)
+      (slot_from (slot_parts2_of slot) (digest2_for tree number))
     where
       by : (reason : Option SkipReason) (made : Option Slot) → verdict_by reason made ≡ Usable usable → reason ≡ None
       by None made is = refl

@@ -45,7 +45,7 @@ use Rattle.luks_format.specs.declared.slot.SlotParts.{SlotParts}
 use Rattle.luks2_metadata.specs.Kdf2.{kdf2_of, variant_of}
 use Rattle.luks_format.specs.Table.{first_match}
 use Rattle.luks2_metadata.specs.Slot2.{form_reasons, has_members, is_af, is_area, is_kdf, is_pbkdf2, material_reasons}
-use Rattle.luks2_metadata.specs.Slot2.{place_reasons, priority_of, reason2_of, slot2_of, slot_parts2_of, verdict2_at}
+use Rattle.luks2_metadata.specs.Slot2.{place_reasons, priority_of, reason2_of, slot_parts2_of, verdict2_at}
 use Rattle.luks2_metadata.specs.Slot2.{verdict2_of}
 use Rattle.luks_format.specs.Rule.{area_out_of_range, iterations_out_of_range, key_material_len, stripes_out_of_range}
 use Rattle.luks_format.specs.Slot.{has_no_usable_digest}
@@ -361,7 +361,7 @@ module _ (p : Seal2) (fits : AreParameters2 p) (typed : AreTyped2 p) where
     -- the slot is usable
     pub slot_usable : verdict2_at (metadata_of p) (bounds_of p) (without_argon2 None) slot.number
         ≡ Some (Usable slot_is)
-    unfolding verdict2_at verdict2_of slot2_of slot_is
+    unfolding verdict2_at verdict2_of slot_is
     slot_usable =
         rw (there, no_reasons, digest_read, slot_from-yes (slot_parts2_of (keyslot_object p slot)) digest_is parts_ok)
         refl
