@@ -9,8 +9,8 @@ use Rattle.luks_format.specs.declared.fault.HeaderFault.TheVariants.{NotLuks}
 use Rattle.luks2_binary.specs.Choice2.{with_valid_primary, binary_at, chosen2_of, found_at, header2_of, is_valid}
 use Rattle.luks2_binary.specs.Choice2.{fits, size_at}
 use Rattle.luks2_binary.specs.Header2.{header2_from, sequence_in, size_in, sizes}
-use Rattle.luks2_binary.specs.ReadLen2.{probe2_len, probe_end, search_len}
-use Rattle.luks2_binary.specs.Search2.{furthest, offsets, walk}
+use Rattle.luks2_binary.specs.ReadLen2.{furthest, probe2_len, probe_end}
+use Rattle.luks2_binary.specs.Search2.{offsets, walk}
 use Rattle.luks2_binary.specs.Text2.{json_text_of, header_offset}
 use Rattle.luks2_binary.specs.declared.header.PairFinding.{PairFinding}
 use Rattle.luks2_binary.specs.declared.header.PairFinding.TheVariants.{PrimaryNotValid, SecondaryNotValid}
@@ -19,7 +19,7 @@ use Rattle.luks2_binary.specs.declared.header.Header2.{Header2}
 use Rattle.luks2_binary.specs.declared.header.HeaderRole.{HeaderRole}
 use Rattle.luks2_binary.specs.declared.header.HeaderRole.TheVariants.{Primary, Secondary}
 use Rattle.luks2_binary.proofs.ValidLemmas.{at_more, found_passes, own_size, probe_fit}
-use Rattle.luks2_binary.proofs.ValidLemmas.{probe_least, probe_more, probe_unfit, search_len_is}
+use Rattle.luks2_binary.proofs.ValidLemmas.{probe_least, probe_more, probe_unfit}
 use Rattle.luks2_binary.proofs.ValidLemmas.{valid_more, valid_parts, valid_range, walk_same}
 
 module _ (image : List ℕ) where
@@ -38,7 +38,8 @@ module _ (image : List ℕ) where
   unfolding chosen2_of
   chosen_other is = rw is refl
 
-  pub probe_other : is_valid image 0 ≡ false → probe2_len image ≡ max (probe_end image 0) (search_len image)
+  pub probe_other : is_valid image 0 ≡ false
+      → probe2_len image ≡ max (probe_end image 0) (furthest (is_valid image) (probe_end image) sizes)
   unfolding probe2_len
   probe_other is = rw is refl
 
@@ -59,7 +60,7 @@ module _ (image : List ℕ) where
   -- the search checks the offsets as far as is read of an image without a valid primary header, and no further
   pub walk_is : is_valid image 0 ≡ false → walk image offsets ≡ probe2_len image
   unfolding offsets furthest
-  walk_is e = rw e (sym (probe_other e ∙ ap (max (probe_end image 0)) (search_len_is image)))
+  walk_is e = rw e (sym (probe_other e))
 
   pub walk_within : walk image offsets ≤ probe2_len image
   unfolding offsets furthest
@@ -116,7 +117,7 @@ module _ (loaded more image : List ℕ) (is : image ≡ loaded ++ more) where
         )
     by false e =
         let inside : furthest (is_valid loaded) (probe_end loaded) sizes ≤ length loaded =
-        omega (arith, probe_other loaded e, search_len_is loaded, whole) in
+        omega (arith, probe_other loaded e, whole) in
         let walk = walk_same loaded more image is sizes inside in
         let first = probe_more loaded more image is 0 (omega (arith, within, probe_least loaded 0)) in (
           chosen_other image (first_valid within ∙ e)
@@ -124,8 +125,8 @@ module _ (loaded more image : List ℕ) (is : image ≡ loaded ++ more) where
               ∙ found_same (find (is_valid loaded) sizes) refl
               ∙ sym (chosen_other loaded e),
           probe_other image (first_valid within ∙ e)
-              ∙ ap (max (probe_end image 0)) (search_len_is image ∙ walk.1 ∙ sym (search_len_is loaded))
-              ∙ ap (λ n. max n (search_len loaded)) first
+              ∙ ap (max (probe_end image 0)) walk.1
+              ∙ ap (λ n. max n (furthest (is_valid loaded) (probe_end loaded) sizes)) first
               ∙ sym (probe_other loaded e),
         )
 

@@ -11,7 +11,8 @@ use Rattle.std.proofs.lemmas.Bool.{ne_eqb}
 use Rattle.luks2_binary.specs.Choice2.{chosen2_of, found_at, is_valid, size_at, with_valid_primary}
 use Rattle.luks2_binary.specs.Header2.{size_in}
 use Rattle.luks2_binary.specs.ReadLen2.{IsNextEnd, probe2_len, probe_end}
-use Rattle.luks2_binary.specs.Search2.{IsSearchOf, checked, furthest, offsets, walk}
+use Rattle.luks2_binary.specs.ReadLen2.{furthest}
+use Rattle.luks2_binary.specs.Search2.{IsSearchOf, checked, offsets, walk}
 use Rattle.luks2_binary.specs.declared.header_search.Search.{Search}
 use Rattle.luks2_binary.specs.declared.header_search.Search.TheVariants.{Found, Passed}
 use Rattle.luks2_binary.proofs.ChoiceLemmas.{probe_primary, walk_is, walk_within}

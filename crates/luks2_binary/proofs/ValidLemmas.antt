@@ -9,9 +9,8 @@ use Rattle.std.proofs.lemmas.Bool.{and_parts, cases_lt, leb-true, eqb-true, le-l
 use Rattle.std.proofs.lemmas.Bool.Decides.{nat_tests}
 use Rattle.std.proofs.lemmas.List.{drop-append-le, take-append-le}
 use Rattle.luks_format.specs.Fields.{at}
-use Rattle.luks2_binary.specs.Choice2.{binary_at, fits, is_binary_of, is_valid, size_at, is_tried}
-use Rattle.luks2_binary.specs.ReadLen2.{probe_end, max_of, search_len}
-use Rattle.luks2_binary.specs.Search2.{furthest}
+use Rattle.luks2_binary.specs.Choice2.{binary_at, fits, is_binary_of, is_valid, size_at}
+use Rattle.luks2_binary.specs.ReadLen2.{furthest, probe_end}
 use Rattle.luks2_binary.specs.Header2.{size_in, sizes}
 
 -- the range of a length that is one of the nine
@@ -134,39 +133,7 @@ module _ (loaded more image : List ℕ) (is : image ≡ loaded ++ more) where
         ) refl
     by false fit = rw (fits_more offset there, fit) refl
 
--- ---- the search for a secondary header, offset by offset: it gives what its definition states
-
-module _ (valid : ℕ → Bool) (probe : ℕ → ℕ) where
-  -- no lower one of the nine offsets has a valid header
-  abbrev pub tried : ℕ → Bool
-  tried offset = not (list_any (λ other. nat_lt other offset && valid other) sizes)
-
-  -- the walk reads as far as the definition states
-  abbrev pub IsOne : Type 0
-  IsOne = furthest valid probe sizes ≡ max_of (map probe (filter tried sizes))
-
-  -- for each offset that is the first valid one, and for none
-  one_by : (a b c d e f g h i : Bool) → valid 16384 ≡ a → valid 32768 ≡ b → valid 65536 ≡ c → valid 131072 ≡ d
-      → valid 262144 ≡ e → valid 524288 ≡ f → valid 1048576 ≡ g → valid 2097152 ≡ h → valid 4194304 ≡ i → IsOne
-  unfolding sizes furthest
-  one_by true _ _ _ _ _ _ _ _ a _ _ _ _ _ _ _ _ = rw a refl
-  one_by false true _ _ _ _ _ _ _ a b _ _ _ _ _ _ _ = rw (a, b) refl
-  one_by false false true _ _ _ _ _ _ a b c _ _ _ _ _ _ = rw (a, b, c) refl
-  one_by false false false true _ _ _ _ _ a b c d _ _ _ _ _ = rw (a, b, c, d) refl
-  one_by false false false false true _ _ _ _ a b c d e _ _ _ _ = rw (a, b, c, d, e) refl
-  one_by false false false false false true _ _ _ a b c d e f _ _ _ = rw (a, b, c, d, e, f) refl
-  one_by false false false false false false true _ _ a b c d e f g _ _ = rw (a, b, c, d, e, f, g) refl
-  one_by false false false false false false false true _ a b c d e f g h _ = rw (a, b, c, d, e, f, g, h) refl
-  one_by false false false false false false false false true a b c d e f g h i = rw (a, b, c, d, e, f, g, h, i) refl
-  one_by false false false false false false false false false a b c d e f g h i = rw (a, b, c, d, e, f, g, h, i) refl
-
-  pub are_one : IsOne
-  are_one = grind (arith, common_steps, one_by)
-
--- the search reads as far as its definition states
-pub search_len_is : (image : List ℕ) → search_len image ≡ furthest (is_valid image) (probe_end image) sizes
-unfolding search_len is_tried
-search_len_is image = sym (are_one (is_valid image) (probe_end image))
+-- ---- the search for a secondary header, offset by offset
 
 -- an offset that is found among others passes the test
 pub found_passes : (test : ℕ → Bool) (offsets : List ℕ) (offset : ℕ) → find test offsets ≡ Some offset

@@ -51,10 +51,6 @@ is_valid image offset =
     && nat_le (offset + size_at image offset) (length image)
     && checksum_matches (at offset (size_at image offset) image)
 
--- the search tries an offset, if the primary header is not valid: no lower one of the nine offsets has a valid header
-unfoldable pub is_tried : List ℕ → ℕ → Bool
-is_tried image offset = not (list_any (λ other. nat_lt other offset && is_valid image other) sizes)
-
 -- the header of an image whose primary one is valid: the secondary one right after it, if that is valid with a higher
 -- sequence number, and otherwise the primary
 unfoldable pub with_valid_primary : List ℕ → Option Header2

@@ -1,6 +1,6 @@
 -- The number of bytes of an image that are read to learn which LUKS2 header it has.
-use Rattle.std.specs.Prelude.{◌≡◌, ℕ, ◌+◌, ◌*◌, ◌≤◌, ◌++◌, if◌then◌else◌, List, [], ◌∷◌, filter, length, map, max}
-use Rattle.luks2_binary.specs.Choice2.{fits, is_tried, is_valid, size_at}
+use Rattle.std.specs.Prelude.{◌≡◌, ℕ, ◌+◌, ◌*◌, ◌≤◌, ◌++◌, if◌then◌else◌, Bool, List, [], ◌∷◌, length, max}
+use Rattle.luks2_binary.specs.Choice2.{fits, is_valid, size_at}
 use Rattle.luks2_binary.specs.Header2.{binary_len, sizes}
 
 -- the end of the bytes that are read to check an offset: the end of the binary header or, if that fits, of the whole
@@ -8,21 +8,17 @@ use Rattle.luks2_binary.specs.Header2.{binary_len, sizes}
 unfoldable pub probe_end : List ℕ → ℕ → ℕ
 probe_end image offset = max (offset + binary_len) (if fits image offset then offset + size_at image offset else 0)
 
--- the maximum of some numbers
-abbrev pub max_of : List ℕ → ℕ
-max_of [] = 0
-max_of (number ∷ numbers) = max number (max_of numbers)
-
--- the end of the bytes that are read to check the offsets that the search tries
-unfoldable pub search_len : List ℕ → ℕ
-search_len image = max_of (map (probe_end image) (filter (is_tried image) sizes))
+-- the end of the bytes that are read to check these offsets, up to the first with a valid header
+unfoldable pub furthest : (ℕ → Bool) → (ℕ → ℕ) → List ℕ → ℕ
+furthest valid probe [] = 0
+furthest valid probe (offset ∷ offsets) = max (probe offset) (if valid offset then 0 else furthest valid probe offsets)
 
 -- the end of the bytes that are read of an image that is long enough: both headers if the primary one is valid, and
--- otherwise the image's start and each offset that the search tries
+-- otherwise the image's start and the nine offsets, up to the first of these with a valid header
 unfoldable pub probe2_len : List ℕ → ℕ
 probe2_len image =
     if is_valid image 0 then 2 * size_at image 0
-    else max (probe_end image 0) (search_len image)
+    else max (probe_end image 0) (furthest (is_valid image) (probe_end image) sizes)
 
 -- how far to load next an image that starts with these bytes: no further than `probe`, the end of the bytes that are
 -- read for its header, and past the loaded bytes, unless all those are loaded

@@ -1,9 +1,9 @@
 -- How far the search for the first valid header of an image came in its loaded bytes, so that nothing is checked twice.
-use Rattle.std.specs.Prelude.{◌≡◌, ℕ, ◌≤◌, if◌then◌else◌, Bool, List, [], ◌∷◌, Option, Some, None, take, length, max}
+use Rattle.std.specs.Prelude.{◌≡◌, ℕ, ◌≤◌, List, ◌∷◌, Option, Some, None, take, length}
 use Rattle.std.specs.List.{find}
 use Rattle.luks2_binary.specs.Choice2.{is_valid}
 use Rattle.luks2_binary.specs.Header2.{sizes}
-use Rattle.luks2_binary.specs.ReadLen2.{probe_end}
+use Rattle.luks2_binary.specs.ReadLen2.{furthest, probe_end}
 use Rattle.luks2_binary.specs.declared.header_search.Search.{Search}
 use Rattle.luks2_binary.specs.declared.header_search.Search.TheVariants.{Found, Passed}
 
@@ -11,12 +11,7 @@ use Rattle.luks2_binary.specs.declared.header_search.Search.TheVariants.{Found, 
 unfoldable pub offsets : List ℕ
 offsets = 0 ∷ sizes
 
--- the end of the bytes that are read to check these offsets, up to the first with a valid header
-unfoldable pub furthest : (ℕ → Bool) → (ℕ → ℕ) → List ℕ → ℕ
-furthest valid probe [] = 0
-furthest valid probe (offset ∷ offsets) = max (probe offset) (if valid offset then 0 else furthest valid probe offsets)
-
--- the same for the image
+-- the end of the bytes that are read of the image to check these offsets
 abbrev pub walk : List ℕ → List ℕ → ℕ
 walk image = furthest (is_valid image) (probe_end image)
 

@@ -24,7 +24,7 @@ pub enum Search {
 
 impl Search {
     /// A search that has not begun.
-    #[tactic(auto, unfolding(crate::specs::Search2::furthest))]
+    #[tactic(auto, unfolding(crate::specs::ReadLen2::furthest))]
     pub fn new() -> Search
         ensures { (loaded : List ℕ) → IsSearchOf loaded result }
     {

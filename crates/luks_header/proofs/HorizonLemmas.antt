@@ -6,16 +6,20 @@ use Rattle.std.proofs.lemmas.List.{take-append-drop}
 use Rattle.luks_format.specs.Header1.{is_luks1}
 use Rattle.luks2_binary.specs.Choice2.{binary_at, fits, is_valid}
 use Rattle.luks2_binary.specs.Header2.{sizes}
-use Rattle.luks2_binary.specs.ReadLen2.{IsNextEnd, max_of, probe2_len, probe_end, search_len}
-use Rattle.luks2_binary.specs.Search2.{furthest}
+use Rattle.luks2_binary.specs.ReadLen2.{IsNextEnd, furthest, probe2_len, probe_end}
 use Rattle.luks2_binary.proofs.ChoiceLemmas.{probe_other, probe_primary}
-use Rattle.luks2_binary.proofs.ValidLemmas.{fits_parts, probe_fit, probe_unfit, search_len_is}
+use Rattle.luks2_binary.proofs.ValidLemmas.{fits_parts, probe_fit, probe_unfit}
 use Rattle.luks2_binary.proofs.ValidLemmas.{size_range, valid_range}
 use Rattle.luks_header.specs.Header.{header_of, header_read_len, probe_len}
 use Rattle.luks_header.proofs.KnownLemmas.{probe_is}
 use Rattle.luks_header.proofs.LoadingLemmas.{decided}
 
 -- ---- no more than 8 MiB are read
+
+-- the maximum of some numbers
+abbrev max_of : List ℕ → ℕ
+max_of [] = 0
+max_of (number ∷ numbers) = max number (max_of numbers)
 
 module _ (image : List ℕ) where
   probe_near : (offset : ℕ) → offset ≤ 4194304 → probe_end image offset ≤ 8388608
@@ -36,9 +40,9 @@ module _ (image : List ℕ) where
     by true far = omega (arith, probe_near offset (omega arith))
     by false far = omega (arith, probe_near offset (omega arith), far)
 
-  search_near : search_len image ≤ 8388608
+  search_near : furthest (is_valid image) (probe_end image) sizes ≤ 8388608
   unfolding sizes
-  search_near = rw (search_len_is image) (walk_near sizes (lit≤ tt))
+  search_near = walk_near sizes (lit≤ tt)
 
   all_near : probe2_len image ≤ 8388608
   all_near = by (is_valid image 0) refl where
