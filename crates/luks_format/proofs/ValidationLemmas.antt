@@ -1,7 +1,7 @@
 -- Properties of a header whose segment is valid, and of a slot that there is no reason to skip.
 use Rattle.std.proofs.lemmas.Grind.{common_steps}
-use Rattle.std.proofs.Common.{◌≡◌, ◌≢◌, ◌∙◌, ℕ, ◌+◌, ◌*◌, ◌≤◌, ap, sym, subst, true, false, Option, Some}
-use Rattle.std.proofs.Common.{None, Ok, arith}
+use Rattle.std.proofs.Common.{◌≡◌, ◌≢◌, ◌∙◌, ℕ, ◌+◌, ◌*◌, ◌≤◌, ap, refl, sym, subst, true, false, Option}
+use Rattle.std.proofs.Common.{Some, None, Ok, arith}
 use Rattle.std.specs.Prelude.{is_none, option_and_then, slice_get}
 use Rattle.std.proofs.lemmas.Bool.Decides.{nat_tests}
 use Rattle.std.proofs.lemmas.Bool.{not-false}
@@ -28,9 +28,12 @@ use Rattle.luks_format.specs.declared.slot.Verdict.TheVariants.{Usable}
 use Rattle.luks_format.specs.declared.slot.VerdictKind.TheVariants.{Usable as KindUsable}
 use Rattle.luks_format.specs.Segment1.{is_key_length1, segment1_of}
 use Rattle.luks_format.specs.Segment1.{segment_faults1}
-use Rattle.luks_format.specs.Slot1.{digest_parts1_of, hash1_of, is_disabled, area1_out_of_range, mode1_of}
+use Rattle.luks_format.specs.Slot1.{digest_parts1_of, hash1_of, area1_out_of_range, mode1_of}
 use Rattle.luks_format.specs.Slot1.{payload1_start, slot1_at, slot1_of, slot_parts1_of, slot_reasons1, verdict1_at}
-use Rattle.luks_format.specs.Slot1.{verdict1_of}
+use Rattle.luks_format.specs.Slot1.{verdict1_of, verdict_in}
+use Rattle.luks_format.specs.Slot.{verdict_by}
+use Rattle.luks_format.specs.declared.header.SlotState.{SlotState}
+use Rattle.luks_format.specs.declared.header.SlotState.TheVariants.{Enabled, Disabled, Damaged}
 use Rattle.luks_format.specs.declared.header.Header1.{Header1}
 use Rattle.luks_format.specs.declared.header.StoredSlot.{StoredSlot}
 
@@ -115,24 +118,36 @@ module _ (header : Header1) (limit : Option ℕ) (slot : StoredSlot) where
   unfolding slot1_of slot_reasons1
   slot_there none =
       let all = none_holds (slot_reasons1 header limit slot) none in
-      let there = digest_there limit (digest_from (digest_parts1_of header)) all.1.1.1.1.0 in
-      let is = range_of all.1.0 all.1.1.0 all.1.1.1.0 in
+      let there = digest_there limit (digest_from (digest_parts1_of header)) all.1.1.1.0 in
+      let is = range_of all.0 all.1.0 all.1.1.0 in
       let made : slot_from (slot_parts1_of header slot) (digest_from (digest_parts1_of header))
       ≡ Some (slot_of (slot_parts1_of header slot) there.0 is) =
       ap (slot_from (slot_parts1_of header slot)) there.1 ∙ slot_from-yes (slot_parts1_of header slot) there.0 is in
       (there.0, there.1, is, made)
 
-  -- the kind of verdict on a slot that is not disabled and that there is no reason to skip: it can be tried
-  pub usable_verdict : is_disabled slot.state ≡ false → first_match (slot_reasons1 header limit slot) ≡ None
+  -- the kind of verdict on a slot that is enabled and that there is no reason to skip: it can be tried
+  pub usable_verdict : slot.state ≡ Enabled → first_match (slot_reasons1 header limit slot) ≡ None
       → verdict_kind_of (verdict1_of header limit slot) ≡ KindUsable 1
   unfolding verdict1_of slot_of slot_parts1_of
-  usable_verdict enabled none = grind (arith, common_steps, slot_there)
+  usable_verdict enabled none =
+      let there = slot_there none in
+      ap (λ (state : SlotState). verdict_kind_of (verdict_in state
+      (verdict_by (first_match (slot_reasons1 header limit slot)) (slot1_of header slot)))) enabled
+      ∙ rw (none, there.3) refl
 
   -- if the verdict is that the slot can be tried, there is no reason to skip it, and this is what is needed to open it
   of_verdict : (usable : Slot) → verdict1_of header limit slot ≡ Usable usable
       → (first_match (slot_reasons1 header limit slot) ≡ None) × (slot1_of header slot ≡ Some usable)
   unfolding verdict1_of
-  of_verdict usable is = grind (arith, common_steps, of_usable)
+  of_verdict usable = by slot.state
+    where
+      by : (state : SlotState)
+          → verdict_in state (verdict_by (first_match (slot_reasons1 header limit slot)) (slot1_of header slot))
+          ≡ Usable usable
+          → (first_match (slot_reasons1 header limit slot) ≡ None) × (slot1_of header slot ≡ Some usable)
+      by Enabled is = of_usable _ _ usable is
+      by Disabled is = absurd cc
+      by (Damaged _) is = absurd cc
 
   -- if the slot can be tried, what is needed to open it is from this header
   usable_is : (usable : Slot) → verdict1_of header limit slot ≡ Usable usable

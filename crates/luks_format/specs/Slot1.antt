@@ -15,22 +15,17 @@ use Rattle.luks_format.specs.declared.refusal.SkipReason.TheVariants.{State, Str
 use Rattle.luks_format.specs.declared.slot.Slot.{Slot}
 use Rattle.luks_format.specs.declared.slot.SlotParts.{SlotParts}
 use Rattle.luks_format.specs.declared.slot.Verdict.{Verdict}
-use Rattle.luks_format.specs.declared.slot.Verdict.TheVariants.{Disabled as VerdictDisabled}
+use Rattle.luks_format.specs.declared.slot.Verdict.TheVariants.{Disabled as VerdictDisabled, Skipped}
 use Rattle.luks_format.specs.Header1.{header1_len}
 use Rattle.luks_format.specs.declared.header.Header1.{Header1}
 use Rattle.luks_format.specs.declared.header.StoredSlot.{StoredSlot}
 use Rattle.luks_format.specs.declared.header.SlotState.{SlotState}
-use Rattle.luks_format.specs.declared.header.SlotState.TheVariants.{Disabled, Damaged}
+use Rattle.luks_format.specs.declared.header.SlotState.TheVariants.{Enabled, Disabled, Damaged}
 
 -- the state is that of a slot that is not in use
 abbrev pub is_disabled : SlotState → Bool
 is_disabled Disabled = true
 is_disabled _ = false
-
--- the state is neither that of a used slot nor that of an unused one
-abbrev pub is_damaged : SlotState → Bool
-is_damaged (Damaged _) = true
-is_damaged _ = false
 
 -- the hash function of the slots, the stripes and the digest, if its name is known
 unfoldable pub hash1_of : Header1 → Option Hash
@@ -59,11 +54,10 @@ area1_out_of_range header slot =
     area_out_of_range header1_len (payload1_start header) (512 * slot.offset)
     (key_material_len header.key_bytes slot.stripes) (key_material_len header.key_bytes slot.stripes)
 
--- the reasons to skip a slot that is not disabled
+-- the reasons to skip a slot that is enabled
 unfoldable pub slot_reasons1 : Header1 → Option ℕ → StoredSlot → List (Bool × SkipReason)
 slot_reasons1 header limit slot =
-    (is_damaged slot.state, State)
-    ∷ (stripes_out_of_range slot.stripes, Stripes)
+    (stripes_out_of_range slot.stripes, Stripes)
     ∷ (iterations_out_of_range limit slot.iterations, Iterations)
     ∷ (area1_out_of_range header slot, Area)
     ∷ (has_no_usable_digest limit (digest_from (digest_parts1_of header)), Digest)
@@ -88,11 +82,16 @@ slot_parts1_of header slot = record {
 unfoldable pub slot1_of : Header1 → StoredSlot → Option Slot
 slot1_of header slot = slot_from (slot_parts1_of header slot) (digest_from (digest_parts1_of header))
 
+-- the verdict on a slot of this state, if this is the one on an enabled slot
+abbrev pub verdict_in : SlotState → Verdict → Verdict
+verdict_in Enabled verdict = verdict
+verdict_in Disabled verdict = VerdictDisabled
+verdict_in (Damaged _) verdict = Skipped State
+
 -- the verdict on a slot
 unfoldable pub verdict1_of : Header1 → Option ℕ → StoredSlot → Verdict
 verdict1_of header limit slot =
-    if is_disabled slot.state then VerdictDisabled
-    else verdict_by (first_match (slot_reasons1 header limit slot)) (slot1_of header slot)
+    verdict_in slot.state (verdict_by (first_match (slot_reasons1 header limit slot)) (slot1_of header slot))
 
 -- the verdict on the slot of this number, 0 to 7
 unfoldable pub verdict1_at : Header1 → Option ℕ → ℕ → Option Verdict

@@ -5,7 +5,7 @@ ghost use Rattle.luks_format.specs.Slot.{digest_from, has_no_usable_digest, verd
 ghost use Rattle.luks_format.specs.Table.{first_match};
 ghost use Rattle.luks_format.specs.Segment1.{overlaps_header1, segment1_of, segment_faults1};
 ghost use Rattle.luks_format.specs.Slot1.{area1_out_of_range, digest_parts1_of, hash1_of};
-ghost use Rattle.luks_format.specs.Slot1.{is_disabled, mode1_of, payload1_start, slot1_at};
+ghost use Rattle.luks_format.specs.Slot1.{mode1_of, payload1_start, slot1_at};
 ghost use Rattle.luks_format.specs.Slot1.{slot1_of, slot_reasons1, verdict1_at, verdict1_of};
 
 use crate::bytes::HeaderBytes;
@@ -93,14 +93,12 @@ fn no_usable_digest1(header: &Header1, limit: Option<u32>) -> bool
     DigestParts::no_usable_digest(limit, header.digest_iterations, header.digest.len())
 }
 
-// The first reason to skip a slot.
+// The first reason to skip a slot that is enabled.
 #[tactic(auto, unfolding(crate::specs::Slot1::slot_reasons1))]
 fn reason(header: &Header1, limit: Option<u32>, slot: &StoredSlot) -> Option<SkipReason>
     ensures { result ≡ first_match (slot_reasons1 header.now limit slot.now) }
 {
-    if matches!(slot.state, SlotState::Damaged(_)) {
-        Some(SkipReason::State)
-    } else if stripes_out_of_range(u64::from(slot.stripes)) {
+    if stripes_out_of_range(u64::from(slot.stripes)) {
         Some(SkipReason::Stripes)
     } else if iterations_out_of_range(limit, u64::from(slot.iterations)) {
         Some(SkipReason::Iterations)
@@ -113,20 +111,15 @@ fn reason(header: &Header1, limit: Option<u32>, slot: &StoredSlot) -> Option<Ski
     }
 }
 
-// Whether a slot of this state is not in use.
-fn disabled(state: SlotState) -> bool
-    ensures { result ≡ is_disabled state }
-{
-    matches!(state, SlotState::Disabled)
-}
-
 // The verdict on a slot, without what is needed to open it.
 #[tactic(auto, unfolding(crate::specs::Slot1::verdict1_of))]
 fn slot_verdict_kind(header: &Header1, limit: Option<u32>, slot: &StoredSlot) -> VerdictKind
     ensures { result ≡ verdict_kind_of (verdict1_of header.now limit slot.now) }
 {
-    if disabled(slot.state) {
-        return VerdictKind::Disabled;
+    match slot.state {
+        SlotState::Enabled => {}
+        SlotState::Disabled => return VerdictKind::Disabled,
+        SlotState::Damaged(_) => return VerdictKind::Skipped(SkipReason::State),
     }
     match reason(header, limit, slot) {
         Some(reason) => VerdictKind::Skipped(reason),

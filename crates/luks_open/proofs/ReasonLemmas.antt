@@ -9,13 +9,15 @@ use Rattle.serde_json.specs.Data.{Data}
 use Rattle.luks_format.specs.Derivation.{derivation_refusal, has_known_hash, is_allowed}
 use Rattle.luks_format.specs.Rule.{iterations_out_of_range, max_slots}
 use Rattle.luks_format.specs.Slot.{slot_from, verdict_by}
-use Rattle.luks_format.specs.Slot1.{is_disabled, slot1_of, slot_reasons1, verdict1_at, verdict1_of}
+use Rattle.luks_format.specs.Slot1.{slot1_of, slot_reasons1, verdict1_at, verdict1_of, verdict_in}
 use Rattle.luks_format.specs.Table.{ascending, first_match}
 use Rattle.luks_format.specs.declared.derivation.Argon2Limits.{Argon2Limits}
 use Rattle.luks_format.specs.declared.derivation.Derivation.{Derivation}
 use Rattle.luks_format.specs.declared.derivation.Derivation.TheVariants.{Pbkdf2, Argon2}
 use Rattle.luks_format.specs.declared.derivation.Limits.{Limits}
 use Rattle.luks_format.specs.declared.header.Header1.{Header1}
+use Rattle.luks_format.specs.declared.header.SlotState.{SlotState}
+use Rattle.luks_format.specs.declared.header.SlotState.TheVariants.{Enabled, Disabled as StateDisabled, Damaged}
 use Rattle.luks_format.specs.declared.header.StoredSlot.{StoredSlot}
 use Rattle.luks_format.specs.declared.refusal.SkipReason.{SkipReason}
 use Rattle.luks_format.specs.declared.refusal.SkipReason.TheVariants.{Iterations}
@@ -86,13 +88,14 @@ each_other verdict (Some its) each = each its
 -- a key slot of LUKS1
 other1 : (header : Header1) (limit : Option ℕ) (slot : StoredSlot) → SkipsOther (verdict1_of header limit slot)
 unfolding verdict1_of slot_reasons1
-other1 header limit slot = by (is_disabled slot.state)
+other1 header limit slot = by slot.state
   where
-    by : (disabled : Bool) → SkipsOther (if disabled then Disabled
-        else verdict_by (first_match (slot_reasons1 header limit slot)) (slot1_of header slot))
-    by true = tt
-    by false = verdict_other (first_match (slot_reasons1 header limit slot)) (slot1_of header slot)
-        (first_other (slot_reasons1 header limit slot) (refl, (refl, (refl, (refl, (refl, tt))))))
+    by : (state : SlotState) → SkipsOther (verdict_in state
+        (verdict_by (first_match (slot_reasons1 header limit slot)) (slot1_of header slot)))
+    by Enabled = verdict_other (first_match (slot_reasons1 header limit slot)) (slot1_of header slot)
+        (first_other (slot_reasons1 header limit slot) (refl, (refl, (refl, (refl, tt)))))
+    by StateDisabled = tt
+    by (Damaged _) = refl
 
 module _ (header : Header) (limits : Limits) (none : is_none limits.argon2 ≡ true) where
   -- of the derivation: if Argon2 may be used, there are limits for it
