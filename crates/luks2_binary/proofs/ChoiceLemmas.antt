@@ -6,15 +6,12 @@ use Rattle.std.specs.Prelude.{Ok, nat_lt, ok_or, option_and_then}
 use Rattle.std.specs.List.{find}
 use Rattle.std.proofs.lemmas.Option.{option_and_then_some}
 use Rattle.luks_format.specs.declared.fault.HeaderFault.TheVariants.{NotLuks}
-use Rattle.luks2_binary.specs.Choice2.{with_valid_primary, binary_at, chosen2_of, found_at, header2_of, is_valid}
-use Rattle.luks2_binary.specs.Choice2.{fits, size_at}
-use Rattle.luks2_binary.specs.Header2.{header2_from, sequence_in, size_in, sizes}
+use Rattle.luks2_binary.specs.Choice2.{with_valid_primary, binary_at, chosen2_of, header2_at, header2_of, is_valid}
+use Rattle.luks2_binary.specs.Choice2.{fits, pair_finding_of, size_at}
+use Rattle.luks2_binary.specs.Header2.{sequence_in, size_in, sizes}
 use Rattle.luks2_binary.specs.ReadLen2.{furthest, probe2_len, probe_end}
 use Rattle.luks2_binary.specs.Search2.{offsets, walk}
 use Rattle.luks2_binary.specs.Text2.{json_text_of, header_offset}
-use Rattle.luks2_binary.specs.declared.header.PairFinding.{PairFinding}
-use Rattle.luks2_binary.specs.declared.header.PairFinding.TheVariants.{PrimaryNotValid, SecondaryNotValid}
-use Rattle.luks2_binary.specs.declared.header.PairFinding.TheVariants.{SequencesDiffer}
 use Rattle.luks2_binary.specs.declared.header.Header2.{Header2}
 use Rattle.luks2_binary.specs.declared.header.HeaderRole.{HeaderRole}
 use Rattle.luks2_binary.specs.declared.header.HeaderRole.TheVariants.{Primary, Secondary}
@@ -34,7 +31,7 @@ module _ (image : List ℕ) where
 
   -- the choice for an image without a valid primary header
   pub chosen_other : is_valid image 0 ≡ false
-      → chosen2_of image ≡ option_and_then (found_at image) (find (is_valid image) sizes)
+      → chosen2_of image ≡ option_and_then (header2_at image Secondary) (find (is_valid image) sizes)
   unfolding chosen2_of
   chosen_other is = rw is refl
 
@@ -72,17 +69,17 @@ module _ (loaded more image : List ℕ) (is : image ≡ loaded ++ more) where
   first_valid : probe_end loaded 0 ≤ length loaded → is_valid image 0 ≡ is_valid loaded 0
   first_valid = valid_more loaded more image is 0
 
-  choice_with_primary_same : is_valid loaded 0 ≡ true → 2 * size_at loaded 0 ≤ length loaded
+  choice_with_primary_same : is_valid image 0 ≡ true → is_valid loaded 0 ≡ true → 2 * size_at loaded 0 ≤ length loaded
       → with_valid_primary image ≡ with_valid_primary loaded
-  unfolding with_valid_primary
-  choice_with_primary_same valid whole =
+  unfolding with_valid_primary header2_at pair_finding_of
+  choice_with_primary_same valid_too valid whole =
       let range = valid_range loaded 0 valid in
       let size = size_at loaded 0 in
       let first = at_more loaded more image is 0 4096 (omega (arith, range.0)) in
       let second = at_more loaded more image is size 4096 (omega (arith, range.1, whole)) in
       let probe : probe_end loaded size ≤ length loaded =
       by_fit size (fits loaded size) refl (range.1, range.2) whole in
-      rw (first, valid_more loaded more image is size probe, second) refl
+      rw (first, valid_too, valid, valid_more loaded more image is size probe, second) refl
     where
       by_fit : (size : ℕ) (fit : Bool) → fits loaded size ≡ fit → (16384 ≤ size) × (size ≤ 4194304)
           → 2 * size ≤ length loaded → probe_end loaded size ≤ length loaded
@@ -91,12 +88,14 @@ module _ (loaded more image : List ℕ) (is : image ≡ loaded ++ more) where
           omega (arith, own, range, whole, probe_fit loaded size fit)
       by_fit size false fit range whole = omega (arith, range, whole, probe_unfit loaded size fit)
 
-  found_same : (first : Option ℕ) → find (is_valid loaded) sizes ≡ first
-      → option_and_then (found_at image) first ≡ option_and_then (found_at loaded) first
-  found_same None is_first = refl
-  found_same (Some offset) is_first =
+  found_same : is_valid image 0 ≡ false → is_valid loaded 0 ≡ false → (first : Option ℕ)
+      → find (is_valid loaded) sizes ≡ first
+      → option_and_then (header2_at image Secondary) first ≡ option_and_then (header2_at loaded Secondary) first
+  unfolding header2_at pair_finding_of
+  found_same none none_loaded None is_first = refl
+  found_same none none_loaded (Some offset) is_first =
       let range = valid_range loaded offset (found_passes (is_valid loaded) sizes offset is_first) in
-      ap (header2_from Secondary (Some PrimaryNotValid)) (at_more loaded more image is offset 4096 range.0)
+      rw (none, none_loaded, at_more loaded more image is offset 4096 range.0) refl
 
   -- if all bytes to be read are loaded, the image has the same header, and as many of its bytes are to be read
   pub decided2 : probe2_len loaded ≤ length loaded
@@ -111,7 +110,7 @@ module _ (loaded more image : List ℕ) (is : image ≡ loaded ++ more) where
     by true e =
         let size = ap size_in (at_more loaded more image is 0 4096 (omega (arith, within, probe_least loaded 0))) in (
           chosen_primary image (first_valid within ∙ e)
-              ∙ choice_with_primary_same e (omega (arith, probe_primary loaded e, whole))
+              ∙ choice_with_primary_same (first_valid within ∙ e) e (omega (arith, probe_primary loaded e, whole))
               ∙ sym (chosen_primary loaded e),
           probe_primary image (first_valid within ∙ e) ∙ ap (λ n. 2 * n) size ∙ sym (probe_primary loaded e),
         )
@@ -121,8 +120,8 @@ module _ (loaded more image : List ℕ) (is : image ≡ loaded ++ more) where
         let walk = walk_same loaded more image is sizes inside in
         let first = probe_more loaded more image is 0 (omega (arith, within, probe_least loaded 0)) in (
           chosen_other image (first_valid within ∙ e)
-              ∙ ap (option_and_then (found_at image)) walk.0
-              ∙ found_same (find (is_valid loaded) sizes) refl
+              ∙ ap (option_and_then (header2_at image Secondary)) walk.0
+              ∙ found_same (first_valid within ∙ e) e (find (is_valid loaded) sizes) refl
               ∙ sym (chosen_other loaded e),
           probe_other image (first_valid within ∙ e)
               ∙ ap (max (probe_end image 0)) walk.1
@@ -133,11 +132,11 @@ module _ (loaded more image : List ℕ) (is : image ≡ loaded ++ more) where
 -- ---- where the header and its JSON text are
 
 -- a header that was made from bytes has this role, the length that they give, and is attached
-made_of : (role : HeaderRole) (finding : Option PairFinding) (binary : List ℕ) (header : Header2)
-    → header2_from role finding binary ≡ Some header
-    → (header.role ≡ role) × (header.size ≡ size_in binary) × (header.detached ≡ false)
-unfolding header2_from
-made_of role finding binary header is = grind (arith, common_steps)
+made_of : (image : List ℕ) (role : HeaderRole) (offset : ℕ) (header : Header2)
+    → header2_at image role offset ≡ Some header
+    → (header.role ≡ role) × (header.size ≡ size_at image offset) × (header.detached ≡ false)
+unfolding header2_at
+made_of image role offset header is = grind (arith, common_steps)
 
 -- a header is at this offset of the image, is valid there, and is attached
 record HasHeaderAt (image : List ℕ) (header : Header2) (offset : ℕ) : Type 0 where
@@ -152,11 +151,11 @@ sequence_at image offset = sequence_in (binary_at image offset)
 
 module _ (image : List ℕ) (header : Header2) where
   -- a header that was made of the bytes at an offset is there, if its role and length give this offset
-  header_at : (role : HeaderRole) (finding : Option PairFinding) (offset : ℕ) → is_valid image offset ≡ true
+  header_at : (role : HeaderRole) (offset : ℕ) → is_valid image offset ≡ true
       → header_offset role (size_at image offset) ≡ offset
-      → header2_from role finding (binary_at image offset) ≡ Some header → HasHeaderAt image header offset
-  header_at role finding offset valid own is =
-      let made = made_of role finding (binary_at image offset) header is in
+      → header2_at image role offset ≡ Some header → HasHeaderAt image header offset
+  header_at role offset valid own is =
+      let made = made_of image role offset header is in
       grind (arith, common_steps)
 
   -- the header of an image with a valid primary one is at an offset of the image
@@ -164,34 +163,27 @@ module _ (image : List ℕ) (header : Header2) where
       → (offset : ℕ) × HasHeaderAt image header offset
   unfolding with_valid_primary
   choice_with_primary_at valid is =
-      by (is_valid image (size_at image 0)) (nat_lt (sequence_at image 0) (sequence_at image (size_at image 0)))
-      (nat_lt (sequence_at image (size_at image 0)) (sequence_at image 0)) refl refl refl
+      by (is_valid image (size_at image 0)) (nat_lt (sequence_at image 0) (sequence_at image (size_at image 0))) refl refl
     where
-      primary : (finding : Option PairFinding) → header2_from Primary finding (binary_at image 0) ≡ Some header
-          → (offset : ℕ) × HasHeaderAt image header offset
-      primary finding made = (0, header_at Primary finding 0 valid refl made)
-
-      by : (both later earlier : Bool) → is_valid image (size_at image 0) ≡ both
+      by : (both later : Bool) → is_valid image (size_at image 0) ≡ both
           → nat_lt (sequence_at image 0) (sequence_at image (size_at image 0)) ≡ later
-          → nat_lt (sequence_at image (size_at image 0)) (sequence_at image 0) ≡ earlier
           → (offset : ℕ) × HasHeaderAt image header offset
-      by false _ _ b _ _ = primary (Some SecondaryNotValid) (rw b at is)
-      by true true _ b l _ =
+      by true true b l =
           let range = valid_range image 0 valid in
           let fit = valid_parts image (size_at image 0) b in
           let own = own_size image (size_at image 0) fit.0 (λ none. absurd (omega (arith, range.1, none))) in
-          (size_at image 0, header_at Secondary (Some SequencesDiffer) (size_at image 0) b own (rw (b, l) at is))
-      by true false true b l e = primary (Some SequencesDiffer) (rw (b, l, e) at is)
-      by true false false b l e = primary None (rw (b, l, e) at is)
+          (size_at image 0, header_at Secondary (size_at image 0) b own (rw (b, l) at is))
+      by true false b l = (0, header_at Primary 0 valid refl (rw (b, l) at is))
+      by false _ b _ = (0, header_at Primary 0 valid refl (rw b at is))
 
   -- the header that the search finds is at the offset where it was found
   search_result_at : is_valid image 0 ≡ false → (offset : ℕ) → find (is_valid image) sizes ≡ Some offset
-      → found_at image offset ≡ Some header → HasHeaderAt image header offset
+      → header2_at image Secondary offset ≡ Some header → HasHeaderAt image header offset
   search_result_at none offset least is =
       let one = found_passes (is_valid image) sizes offset least in
       let some : offset ≡ 0 → ⊥ = grind (arith, common_steps) in
       let own = own_size image offset (valid_parts image offset one).0 some in
-      header_at Secondary (Some PrimaryNotValid) offset one own is
+      header_at Secondary offset one own is
 
   -- the header that is chosen is at an offset of the image
   chosen_header_at : chosen2_of image ≡ Some header → (offset : ℕ) × HasHeaderAt image header offset
@@ -199,7 +191,7 @@ module _ (image : List ℕ) (header : Header2) where
     by : (b : Bool) → is_valid image 0 ≡ b → (offset : ℕ) × HasHeaderAt image header offset
     by true e = choice_with_primary_at e (sym (chosen_primary image e) ∙ is)
     by false e =
-        option_and_then_some (found_at image) (find (is_valid image) sizes) header (sym (chosen_other image e) ∙ is)
+        option_and_then_some (header2_at image Secondary) (find (is_valid image) sizes) header (sym (chosen_other image e) ∙ is)
         (λ offset least made. (offset, search_result_at e offset least made))
 
   -- the header of an image is at an offset of it

@@ -8,11 +8,14 @@ use Rattle.std.proofs.lemmas.List.Folds.{find-append}
 use Rattle.std.specs.Prelude.{option_and_then, if◌then◌else◌, ◌*◌}
 use Rattle.std.specs.List.{find}
 use Rattle.std.proofs.lemmas.Bool.{ne_eqb}
-use Rattle.luks2_binary.specs.Choice2.{chosen2_of, found_at, is_valid, size_at, with_valid_primary}
+use Rattle.luks2_binary.specs.Choice2.{chosen2_of, header2_at, is_valid, pair_finding_of, size_at}
+use Rattle.luks2_binary.specs.Choice2.{with_valid_primary}
 use Rattle.luks2_binary.specs.Header2.{size_in}
 use Rattle.luks2_binary.specs.ReadLen2.{IsNextEnd, probe2_len, probe_end}
 use Rattle.luks2_binary.specs.ReadLen2.{furthest}
 use Rattle.luks2_binary.specs.Search2.{IsSearchOf, checked, offsets, walk}
+use Rattle.luks2_binary.specs.declared.header.HeaderRole.TheVariants.{Secondary}
+use Rattle.luks2_binary.specs.declared.header.PairFinding.TheVariants.{PrimaryNotValid}
 use Rattle.luks2_binary.specs.declared.header_search.Search.{Search}
 use Rattle.luks2_binary.specs.declared.header_search.Search.TheVariants.{Found, Passed}
 use Rattle.luks2_binary.proofs.ChoiceLemmas.{probe_primary, walk_is, walk_within}
@@ -132,7 +135,21 @@ module _ (loaded : List ℕ) (offset : ℕ) (is : IsSearchOf loaded (Found offse
 
 -- the header at the first offset with a valid one
 pub chosen_by : (image : List ℕ) (first : Option ℕ) → find (is_valid image) offsets ≡ first
-    → option_and_then (λ offset. if offset == 0 then with_valid_primary image else found_at image offset) first
+    → option_and_then (λ offset. if offset == 0 then with_valid_primary image
+    else header2_at image Secondary offset) first
     ≡ chosen2_of image
 unfolding offsets chosen2_of
 chosen_by image first is = grind (arith, common_steps, primary_found)
+
+-- a valid header is at the first offset with one, and none before it
+module _ (image : List ℕ) (offset : ℕ) (first : find (is_valid image) offsets ≡ Some offset) where
+  pub first_is : is_valid image offset ≡ true
+  first_is = found_passes (is_valid image) offsets offset first
+
+  -- behind the image's start, the finding is that the primary header is not valid
+  pub finding_is : (offset ≡ 0 → ⊥) → Some PrimaryNotValid ≡ pair_finding_of image
+  unfolding offsets pair_finding_of
+  finding_is behind = by (is_valid image 0) refl where
+    by : (b : Bool) → is_valid image 0 ≡ b → Some PrimaryNotValid ≡ pair_finding_of image
+    by true e = absurd (behind (let same : Some 0 ≡ Some offset = rw e at first in cc))
+    by false e = rw e refl

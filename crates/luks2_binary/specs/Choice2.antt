@@ -1,17 +1,18 @@
 -- Which LUKS2 header an image has (LUKS2 On-Disk Format Specification 1.1, sections 2.1 and 2.2): the primary one is at
 -- the image's start, the secondary one at the offset that is its own length.
 use Rattle.std.specs.Prelude.{ℕ, ◌+◌, ◌==◌, ◌&&◌, ◌||◌, not, nat_le, nat_lt, if◌then◌else◌, Bool, List, [], ◌∷◌, Option}
-use Rattle.std.specs.Prelude.{Some, None, Result, bytes_eq, is_some, length, ok_or, option_and_then}
+use Rattle.std.specs.Prelude.{Some, None, Result, bytes_eq, false, is_some, length, ok_or, option_and_then, option_map}
 use Rattle.std.specs.List.{find, list_any}
-use Rattle.luks_format.specs.Fields.{at}
+use Rattle.luks_format.specs.Fields.{at, text_of}
 use Rattle.luks_format.specs.declared.fault.HeaderFault.{HeaderFault}
 use Rattle.luks_format.specs.declared.fault.HeaderFault.TheVariants.{NotLuks}
 use Rattle.luks2_binary.specs.Checksum2.{checksum_matches}
-use Rattle.luks2_binary.specs.Header2.{binary_len, checksum_hash_in, header2_from, hdr_offset_in, sequence_in, size_in}
-use Rattle.luks2_binary.specs.Header2.{sizes}
+use Rattle.luks2_binary.specs.Header2.{binary_len, checksum_hash_in, hdr_offset_in, sequence_in, size_in, sizes}
+use Rattle.luks2_binary.specs.declared.header.PairFinding.{PairFinding}
 use Rattle.luks2_binary.specs.declared.header.PairFinding.TheVariants.{PrimaryNotValid, SecondaryNotValid}
 use Rattle.luks2_binary.specs.declared.header.PairFinding.TheVariants.{SequencesDiffer}
 use Rattle.luks2_binary.specs.declared.header.Header2.{Header2}
+use Rattle.luks2_binary.specs.declared.header.HeaderRole.{HeaderRole}
 use Rattle.luks2_binary.specs.declared.header.HeaderRole.TheVariants.{Primary, Secondary}
 
 -- the first bytes of a header at this offset: LUKS at the image's start and SKUL elsewhere, BA BE, and the version 2 in
@@ -51,29 +52,46 @@ is_valid image offset =
     && nat_le (offset + size_at image offset) (length image)
     && checksum_matches (at offset (size_at image offset) image)
 
+-- what is wrong with the two headers of an image that has a valid one
+unfoldable pub pair_finding_of : List ℕ → Option PairFinding
+pair_finding_of image =
+    if not (is_valid image 0) then Some PrimaryNotValid
+    else if not (is_valid image (size_at image 0)) then Some SecondaryNotValid
+    else if sequence_in (binary_at image 0) == sequence_in (binary_at image (size_at image 0)) then None
+    else Some SequencesDiffer
+
+-- the header that the 4096 bytes at an offset encode, if the hash function is known. It is read as an attached one
+unfoldable pub header2_at : List ℕ → HeaderRole → ℕ → Option Header2
+header2_at image role offset =
+    let binary = binary_at image offset in
+    option_map (λ hash. record {
+      role = role;
+      size = size_in binary;
+      sequence = sequence_in binary;
+      label = text_of (at 24 48 binary);
+      hash = hash;
+      salt = at 104 64 binary;
+      uuid = text_of (at 168 40 binary);
+      subsystem = text_of (at 208 48 binary);
+      finding = pair_finding_of image;
+      detached = false;
+    }) (checksum_hash_in binary)
+
 -- the header of an image whose primary one is valid: the secondary one right after it, if that is valid with a higher
 -- sequence number, and otherwise the primary
 unfoldable pub with_valid_primary : List ℕ → Option Header2
 with_valid_primary image =
-    let primary = binary_at image 0 in
-    let secondary = binary_at image (size_at image 0) in
-    if not (is_valid image (size_at image 0)) then header2_from Primary (Some SecondaryNotValid) primary
-    else if nat_lt (sequence_in primary) (sequence_in secondary)
-    then header2_from Secondary (Some SequencesDiffer) secondary
-    else if nat_lt (sequence_in secondary) (sequence_in primary)
-    then header2_from Primary (Some SequencesDiffer) primary
-    else header2_from Primary None primary
-
--- the header that the search finds at an offset
-abbrev pub found_at : List ℕ → ℕ → Option Header2
-found_at image offset = header2_from Secondary (Some PrimaryNotValid) (binary_at image offset)
+    let second = size_at image 0 in
+    if is_valid image second && nat_lt (sequence_in (binary_at image 0)) (sequence_in (binary_at image second))
+    then header2_at image Secondary second
+    else header2_at image Primary 0
 
 -- the header of an image, if it has one. If the primary one is not valid, it is the header at the lowest of the nine
 -- offsets that has a valid one
 unfoldable pub chosen2_of : List ℕ → Option Header2
 chosen2_of image =
     if is_valid image 0 then with_valid_primary image
-    else option_and_then (found_at image) (find (is_valid image) sizes)
+    else option_and_then (header2_at image Secondary) (find (is_valid image) sizes)
 
 -- the LUKS2 header of an image that does not start as LUKS1, or the fault if it has none
 unfoldable pub header2_of : List ℕ → Result Header2 HeaderFault

@@ -1,11 +1,8 @@
 -- The binary header of LUKS2: its fields (LUKS2 On-Disk Format Specification 1.1, section 2.1).
-use Rattle.std.specs.Prelude.{ℕ, false, List, [], ◌∷◌, Option, option_map}
+use Rattle.std.specs.Prelude.{ℕ, List, [], ◌∷◌, Option}
 use Rattle.luks_format.specs.Fields.{at, be64, text_of}
 use Rattle.luks_kdf.specs.Hash.{hash_named}
 use Rattle.luks_kdf.specs.declared.hash.Hash.{Hash}
-use Rattle.luks2_binary.specs.declared.header.PairFinding.{PairFinding}
-use Rattle.luks2_binary.specs.declared.header.Header2.{Header2}
-use Rattle.luks2_binary.specs.declared.header.HeaderRole.{HeaderRole}
 
 -- the length of a binary header in bytes. Its JSON area follows it
 abbrev pub binary_len : ℕ
@@ -31,19 +28,3 @@ checksum_hash_in binary = hash_named (text_of (at 72 32 binary))
 -- `hdr_offset`: the header's own offset in bytes
 unfoldable pub hdr_offset_in : List ℕ → ℕ
 hdr_offset_in binary = be64 (at 256 8 binary)
-
--- the header that 4096 bytes encode, if the hash function is known. It is read as an attached one
-unfoldable pub header2_from : HeaderRole → Option PairFinding → List ℕ → Option Header2
-header2_from role finding binary =
-    option_map (λ hash. record {
-      role = role;
-      size = size_in binary;
-      sequence = sequence_in binary;
-      label = text_of (at 24 48 binary);
-      hash = hash;
-      salt = at 104 64 binary;
-      uuid = text_of (at 168 40 binary);
-      subsystem = text_of (at 208 48 binary);
-      finding = finding;
-      detached = false;
-    }) (checksum_hash_in binary)

@@ -1,11 +1,11 @@
 //! The binary header of LUKS2 (LUKS2 On-Disk Format Specification 1.1, section 2.1).
 
 ghost use Rattle.std.specs.Prelude.{◌≡◌, ◌≤◌, ◌*◌, length};
-ghost use Rattle.luks2_binary.specs.Header2.{checksum_hash_in, header2_from};
+ghost use Rattle.luks2_binary.specs.Header2.{checksum_hash_in};
 ghost use Rattle.luks2_binary.specs.Header2.{hdr_offset_in, sequence_in, size_in};
 ghost use Rattle.luks2_binary.specs.Text2.{json_text_of};
 
-use luks_format::field::{bytes_at, number64_at, slice_at, text_at};
+use luks_format::field::{number64_at, slice_at, text_at};
 use luks_format::text::{FixedText, text_before_zero};
 use luks_kdf::Hash;
 
@@ -95,32 +95,6 @@ pub(crate) fn hdr_offset_in(binary: &[u8]) -> u64
 }
 
 impl Header2 {
-    /// The header that the 4,096 bytes encode, or `None` if the hash function of its checksum is
-    /// not known.
-    pub(crate) fn from_bytes(
-        role: HeaderRole,
-        finding: Option<PairFinding>,
-        binary: &[u8],
-    ) -> Option<Header2>
-        requires whole { 4096 ≤ length binary.now }
-        requires sized { size_in binary.now ≤ 4194304 }
-        ensures { result ≡ header2_from role finding binary.now }
-    {
-        let hash = checksum_hash_in(binary)?;
-        Some(Header2 {
-            role,
-            size: size_in(binary) as u32,
-            sequence: sequence_in(binary),
-            label: text_at(binary, 24),
-            hash,
-            salt: bytes_at(binary, 104),
-            uuid: text_at(binary, 168),
-            subsystem: text_at(binary, 208),
-            finding,
-            detached: false,
-        })
-    }
-
     /// The offset of the first byte after both headers of the image.
     pub fn end(&self) -> u64
         ensures { result ≡ 2 * self.now.size }

@@ -12,7 +12,7 @@ use Rattle.std.proofs.lemmas.Slice.Eq.{bytes_eq-Decides}
 use Rattle.luks_format.specs.declared.fault.HeaderFault.TheVariants.{NotLuks}
 use Rattle.luks_format.specs.Header1.{is_luks1}
 use Rattle.luks2_binary.specs.Choice2.{beginning_at, chosen2_of, fits}
-use Rattle.luks2_binary.specs.Choice2.{found_at, header2_of, is_binary_of, is_valid}
+use Rattle.luks2_binary.specs.Choice2.{header2_at, header2_of, is_binary_of, is_valid}
 use Rattle.luks2_binary.specs.Header2.{sizes}
 use Rattle.luks2_binary.proofs.ChoiceLemmas.{chosen_other}
 use Rattle.luks2_binary.proofs.ValidLemmas.{fits_parts, unfit-is_valid}
@@ -76,7 +76,7 @@ quiet_none bytes none =
     let first : is_valid bytes 0 ≡ false = unfit 0 parts.0 in
     let search : find (is_valid bytes) sizes ≡ None = grind (arith, common_steps, find_none) in
     let chosen : chosen2_of bytes ≡ None =
-    chosen_other bytes first ∙ ap (option_and_then (found_at bytes)) search in
+    chosen_other bytes first ∙ ap (option_and_then (header2_at bytes Secondary)) search in
     ap found_in (header_other bytes (first_magic bytes parts.0) (Err NotLuks)
     (ap (λ c. ok_or c NotLuks) chosen))
 

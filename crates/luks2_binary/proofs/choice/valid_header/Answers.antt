@@ -1,9 +1,20 @@
-use Rattle.std.proofs.Common.{rules}
+use Rattle.std.proofs.lemmas.Grind.{common_steps}
+use Rattle.std.proofs.Common.{◌≡◌, ◌∙◌, ap, arith, sym, Some, None}
+use Rattle.luks2_binary.specs.Choice2.{header2_at}
+use Rattle.luks2_binary.specs.Header2.{checksum_hash_in}
 use Rattle.luks2_binary.proofs.ValidLemmas.{valid_range}
 use Rattle.luks2_binary.proofs.choice.valid_header.Goals as goal
 
 pub binary_at-requires : goal.binary_at-requires
-binary_at-requires c = (let range = valid_range c.args.bytes.now c.args.start c.requires in range.0)
+binary_at-requires c = (let range = valid_range c.args.bytes.now c.args.start c.requires.valid in range.0)
 
-pub from_bytes-requires-clause-sized : goal.from_bytes-requires-clause-sized
-from_bytes-requires-clause-sized c = search (rules, valid_range)
+pub returns-in_err-hash : goal.returns-in_err-hash
+unfolding header2_at
+returns-in_err-hash c = grind (arith, common_steps)
+
+pub returns : goal.returns
+unfolding header2_at
+returns c =
+    let some : checksum_hash_in c.binary_at-binary.result.now ≡ Some c.in_ok-hash.hash =
+    sym c.checksum_hash_in.ensures ∙ c.in_ok-hash.was in
+    grind (arith, common_steps)

@@ -1,11 +1,9 @@
-use Rattle.std.proofs.Common.{rules}
 use Rattle.std.proofs.Common.{◌∙◌, None, Some, sym}
 use Rattle.luks2_binary.proofs.SearchLemmas.{chosen_by}
-use Rattle.luks2_binary.proofs.ValidLemmas.{found_passes}
 use Rattle.luks2_binary.proofs.header_search.header2.Goals as goal
 
 pub chosen_at-requires : goal.chosen_at-requires
-chosen_at-requires c = search (rules, found_passes)
+chosen_at-requires c = sym c.first_valid.ensures ∙ c.in_ok-first_valid.was
 
 pub returns-in_err-first_valid : goal.returns-in_err-first_valid
 returns-in_err-first_valid c =
