@@ -33,7 +33,7 @@ use Rattle.luks_open.specs.Location.{reader_for}
 use Rattle.luks_open.specs.declared.location.HeaderLocation.{HeaderLocation}
 use Rattle.luks_open.specs.KeyFile.{NoKeyFileRead, max_key_file_len}
 use Rattle.luks_open.specs.Volume.{FindsNoVolume, volume_by}
-use Rattle.luks_open.specs.Volume.{Volume, VolumeOpening, opening_found, opening_tried}
+use Rattle.luks_open.specs.Volume.{Volume, VolumeOpening, opening_found}
 use Rattle.luks_open.specs.Volume.{unlock_read_len, volume_opening_by, opening_after}
 use Rattle.luks_open.specs.Volume.{CanBeTried, ConsumedUnless, ConsumesMaterial, CountsTrials, FoundIn, IsLoaded, OpeningMatches}
 use Rattle.luks_open.specs.Volume.{IfRefused, TriesSlots, UnlessRefused, described, opened_of, opened_result}
@@ -68,7 +68,11 @@ module _ (v : Volume) (image secret : List ℕ) where
       rw (allowed, lt-ltb (length image) (key_material_end v.order.entries) few) refl
 
   pub found_whole : length secret ≤ max_key_file_len → key_material_end v.order.entries ≤ length image
-      → opening_found v image secret ≡ opening_tried v image secret
+      → opening_found v image secret ≡ record {
+        result = result_map_both (λ opened. (v.segment, opened)) Slots (opening_of v.order image secret);
+        consumed = unlock_read_len image v;
+        secret_consumed = length secret;
+      }
   unfolding opening_found
   found_whole short enough =
       let allowed = le-ltb max_key_file_len (length secret) short in

@@ -81,14 +81,6 @@ CanBeTried (Err V.KeyAreaCut) = Unit {0}
 CanBeTried (Err (V.Slots (NoOpening _))) = Unit {0}
 CanBeTried _ = ⊥
 
--- all key areas are loaded, and the key slots are tried
-abbrev pub opening_tried : Volume → List ℕ → List ℕ → VolumeOpening
-opening_tried volume image secret = record {
-  result = result_map_both (λ opened. (volume.segment, opened)) V.Slots (opening_of volume.order image secret);
-  consumed = unlock_read_len image volume;
-  secret_consumed = length secret;
-}
-
 -- a volume was found: the passphrase is read whole, then the image up to the end of the last key material, and the key
 -- slots are tried
 unfoldable pub opening_found : Volume → List ℕ → List ℕ → VolumeOpening
@@ -100,7 +92,11 @@ opening_found volume image secret =
     }
     else if nat_lt (length image) (key_material_end volume.order.entries)
     then record { result = Err V.KeyAreaCut; consumed = length image; secret_consumed = length secret }
-    else opening_tried volume image secret
+    else record {
+      result = result_map_both (λ opened. (volume.segment, opened)) V.Slots (opening_of volume.order image secret);
+      consumed = unlock_read_len image volume;
+      secret_consumed = length secret;
+    }
 
 -- the same, whether or not a volume was found
 abbrev pub opening_after : List ℕ → List ℕ → Result Volume VolumeFault → VolumeOpening
