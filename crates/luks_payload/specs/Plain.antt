@@ -1,8 +1,9 @@
 -- The plaintext of a payload, over the whole image as one list of bytes.
-use Rattle.std.specs.Prelude.{ℕ, ◌+◌, ◌-◌, ◌*◌, ◌/◌, ◌%◌, ◌==◌, min, nat_lt, if◌then◌else◌, List, length, take}
-use Rattle.std.specs.Prelude.{drop, Option, None, Some, Result, Ok, Err}
+use Rattle.std.specs.Prelude.{ℕ, ◌+◌, ◌-◌, ◌*◌, ◌/◌, ◌%◌, ◌==◌, min, nat_lt, if◌then◌else◌, List, length}
+use Rattle.std.specs.Prelude.{Option, None, Some, Result, Ok, Err}
 use Rattle.luks_cipher.specs.Sector.{Cipher, sector_decrypted}
 use Rattle.luks_cipher.specs.Xts.{joined}
+use Rattle.luks_format.specs.Fields.{at}
 use Rattle.luks_format.specs.SectorSize.{bytes_of}
 pub use Rattle.luks_format.specs.Segment.{unit_number}
 use Rattle.luks_format.specs.declared.segment.Segment.{Segment}
@@ -25,8 +26,7 @@ unit_plain cipher number unit = sector_decrypted cipher.0 cipher.1 number unit
 
 -- the plaintext of sector i
 abbrev pub sector_plaintext : Segment → Cipher → List ℕ → ℕ → List ℕ
-sector_plaintext s cipher image i = unit_plain cipher (unit_number s i) (take (sector_len s) (drop
-    (sector_start s i) image))
+sector_plaintext s cipher image i = unit_plain cipher (unit_number s i) (at (sector_start s i) (sector_len s) image)
 
 -- the number of bytes that belong to a payload of this size if the image has `len` bytes from its start on
 abbrev pub payload_bytes : Option ℕ → ℕ → ℕ
