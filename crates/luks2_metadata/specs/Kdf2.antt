@@ -13,13 +13,10 @@ use Rattle.serde_json.specs.Data.{Data}
 abbrev pub is_kdf_type : List ℕ → Data → Bool
 is_kdf_type type slot = passes (codes "kdf") (is_type type) slot
 
--- the variant of Argon2, if it is the first or the second
-abbrev pub variant_if : Bool → Bool → Option Variant
-variant_if first second = if first then Some Argon2i else if second then Some Argon2id else None
-
 -- the variant of Argon2 that derives the slot's key, if one does
 unfoldable pub variant_of : Data → Option Variant
-variant_of slot = variant_if (is_kdf_type (codes "argon2i") slot) (is_kdf_type (codes "argon2id") slot)
+variant_of slot = if is_kdf_type (codes "argon2i") slot then Some Argon2i
+    else if is_kdf_type (codes "argon2id") slot then Some Argon2id else None
 
 -- the length of the salt, if the object has one
 abbrev pub salt_len : Data → Option ℕ

@@ -1,10 +1,11 @@
 -- If no key slot of a header derives its key by Argon2, limits for Argon2 change nothing.
 use Rattle.std.proofs.Common.{◌≡◌, ◌∙◌, ℕ, zero, suc, ap, refl, arith, Bool, true, false, List, [], ◌∷◌, Option, Some, None}
 use Rattle.std.proofs.Common.{Result, Ok, Err}
-use Rattle.std.specs.Prelude.{IfOk, IfSome, ◌&&◌, codes, is_none, option_map}
+use Rattle.std.specs.Prelude.{IfOk, IfSome, ◌&&◌, codes, if◌then◌else◌, is_none, option_map}
 use Rattle.std.specs.Option.{option_or}
 use Rattle.serde_json.specs.Data.{Data}
 use Rattle.luks_argon2.specs.declared.variant.Variant.{Variant}
+use Rattle.luks_argon2.specs.declared.variant.Variant.TheVariants.{Argon2i, Argon2id}
 use Rattle.luks_format.specs.Derivation.{derivation_refusal, without_argon2}
 use Rattle.luks_format.specs.Rule.{max_slots}
 use Rattle.luks_format.specs.Table.{ascending, first_match}
@@ -21,7 +22,7 @@ use Rattle.luks_format.specs.declared.slot.Verdict.TheVariants.{Usable}
 use Rattle.luks_format.proofs.TableLemmas.{none_holds}
 use Rattle.luks2_json.specs.Numbered.{object_numbered}
 use Rattle.luks2_metadata.specs.Digest2.{digest2_for}
-use Rattle.luks2_metadata.specs.Kdf2.{derivation_by, is_kdf_type, kdf2_of, variant_if, variant_of}
+use Rattle.luks2_metadata.specs.Kdf2.{derivation_by, is_kdf_type, kdf2_of, variant_of}
 use Rattle.luks2_metadata.specs.Slot2.{form_reasons, reason2_of, slot_parts2_of, verdict2_at, verdict2_of}
 use Rattle.luks2_metadata.specs.declared.bounds.Bounds.{Bounds}
 use Rattle.luks_header.specs.Header.{bounds2_of}
@@ -39,6 +40,10 @@ use Rattle.luks_open.specs.declared.allowed.AllowedSlots.{AllowedSlots}
 use Rattle.luks_open.specs.declared.fault.VolumeFault.{VolumeFault}
 
 -- ---- the reasons to skip a slot
+
+-- the variant of Argon2, if it is the first or the second
+abbrev variant_if : Bool → Bool → Option Variant
+variant_if first second = if first then Some Argon2i else if second then Some Argon2id else None
 
 no_variant_of : (first second : Bool) → variant_if first second ≡ None → (first ≡ false) × (second ≡ false)
 no_variant_of false false none = (refl, refl)
