@@ -6,7 +6,7 @@ use Rattle.std.specs.Prelude.{Ok, nat_lt, ok_or, option_and_then}
 use Rattle.std.specs.List.{find}
 use Rattle.std.proofs.lemmas.Option.{option_and_then_some}
 use Rattle.luks_format.specs.declared.fault.HeaderFault.TheVariants.{NotLuks}
-use Rattle.luks2_binary.specs.Choice2.{with_valid_primary, binary_at, chosen2_of, header2_at, header2_of, is_valid}
+use Rattle.luks2_binary.specs.Choice2.{binary_at, chosen2_of, header2_at, header2_of, is_valid}
 use Rattle.luks2_binary.specs.Choice2.{fits, pair_finding_of, size_at}
 use Rattle.luks2_binary.specs.Header2.{sequence_in, size_in, sizes}
 use Rattle.luks2_binary.specs.ReadLen2.{furthest, probe2_len, probe_end}
@@ -20,11 +20,6 @@ use Rattle.luks2_binary.proofs.ValidLemmas.{probe_least, probe_more, probe_unfit
 use Rattle.luks2_binary.proofs.ValidLemmas.{valid_more, valid_parts, valid_range, walk_same}
 
 module _ (image : List ℕ) where
-  -- the choice for an image with a valid primary header
-  pub chosen_primary : is_valid image 0 ≡ true → chosen2_of image ≡ with_valid_primary image
-  unfolding chosen2_of
-  chosen_primary is = rw is refl
-
   pub probe_primary : is_valid image 0 ≡ true → probe2_len image ≡ 2 * size_at image 0
   unfolding probe2_len
   probe_primary is = rw is refl
@@ -70,8 +65,8 @@ module _ (loaded more image : List ℕ) (is : image ≡ loaded ++ more) where
   first_valid = valid_more loaded more image is 0
 
   choice_with_primary_same : is_valid image 0 ≡ true → is_valid loaded 0 ≡ true → 2 * size_at loaded 0 ≤ length loaded
-      → with_valid_primary image ≡ with_valid_primary loaded
-  unfolding with_valid_primary header2_at pair_finding_of
+      → chosen2_of image ≡ chosen2_of loaded
+  unfolding chosen2_of header2_at pair_finding_of
   choice_with_primary_same valid_too valid whole =
       let range = valid_range loaded 0 valid in
       let size = size_at loaded 0 in
@@ -109,9 +104,7 @@ module _ (loaded more image : List ℕ) (is : image ≡ loaded ++ more) where
         → (chosen2_of image ≡ chosen2_of loaded) × (probe2_len image ≡ probe2_len loaded)
     by true e =
         let size = ap size_in (at_more loaded more image is 0 4096 (omega (arith, within, probe_least loaded 0))) in (
-          chosen_primary image (first_valid within ∙ e)
-              ∙ choice_with_primary_same (first_valid within ∙ e) e (omega (arith, probe_primary loaded e, whole))
-              ∙ sym (chosen_primary loaded e),
+          choice_with_primary_same (first_valid within ∙ e) e (omega (arith, probe_primary loaded e, whole)),
           probe_primary image (first_valid within ∙ e) ∙ ap (λ n. 2 * n) size ∙ sym (probe_primary loaded e),
         )
     by false e =
@@ -159,9 +152,9 @@ module _ (image : List ℕ) (header : Header2) where
       grind (arith, common_steps)
 
   -- the header of an image with a valid primary one is at an offset of the image
-  choice_with_primary_at : is_valid image 0 ≡ true → with_valid_primary image ≡ Some header
+  choice_with_primary_at : is_valid image 0 ≡ true → chosen2_of image ≡ Some header
       → (offset : ℕ) × HasHeaderAt image header offset
-  unfolding with_valid_primary
+  unfolding chosen2_of
   choice_with_primary_at valid is =
       by (is_valid image (size_at image 0)) (nat_lt (sequence_at image 0) (sequence_at image (size_at image 0))) refl refl
     where
@@ -172,9 +165,9 @@ module _ (image : List ℕ) (header : Header2) where
           let range = valid_range image 0 valid in
           let fit = valid_parts image (size_at image 0) b in
           let own = own_size image (size_at image 0) fit.0 (λ none. absurd (omega (arith, range.1, none))) in
-          (size_at image 0, header_at Secondary (size_at image 0) b own (rw (b, l) at is))
-      by true false b l = (0, header_at Primary 0 valid refl (rw (b, l) at is))
-      by false _ b _ = (0, header_at Primary 0 valid refl (rw b at is))
+          (size_at image 0, header_at Secondary (size_at image 0) b own (rw (valid, b, l) at is))
+      by true false b l = (0, header_at Primary 0 valid refl (rw (valid, b, l) at is))
+      by false _ b _ = (0, header_at Primary 0 valid refl (rw (valid, b) at is))
 
   -- the header that the search finds is at the offset where it was found
   search_result_at : is_valid image 0 ≡ false → (offset : ℕ) → find (is_valid image) sizes ≡ Some offset
@@ -189,7 +182,7 @@ module _ (image : List ℕ) (header : Header2) where
   chosen_header_at : chosen2_of image ≡ Some header → (offset : ℕ) × HasHeaderAt image header offset
   chosen_header_at is = by (is_valid image 0) refl where
     by : (b : Bool) → is_valid image 0 ≡ b → (offset : ℕ) × HasHeaderAt image header offset
-    by true e = choice_with_primary_at e (sym (chosen_primary image e) ∙ is)
+    by true e = choice_with_primary_at e is
     by false e =
         option_and_then_some (header2_at image Secondary) (find (is_valid image) sizes) header (sym (chosen_other image e) ∙ is)
         (λ offset least made. (offset, search_result_at e offset least made))

@@ -9,7 +9,6 @@ use Rattle.std.specs.Prelude.{option_and_then, if◌then◌else◌, ◌*◌}
 use Rattle.std.specs.List.{find}
 use Rattle.std.proofs.lemmas.Bool.{ne_eqb}
 use Rattle.luks2_binary.specs.Choice2.{chosen2_of, header2_at, is_valid, pair_finding_of, size_at}
-use Rattle.luks2_binary.specs.Choice2.{with_valid_primary}
 use Rattle.luks2_binary.specs.Header2.{size_in}
 use Rattle.luks2_binary.specs.ReadLen2.{IsNextEnd, probe2_len, probe_end}
 use Rattle.luks2_binary.specs.ReadLen2.{furthest}
@@ -18,7 +17,7 @@ use Rattle.luks2_binary.specs.declared.header.HeaderRole.TheVariants.{Secondary}
 use Rattle.luks2_binary.specs.declared.header.PairFinding.TheVariants.{PrimaryNotValid}
 use Rattle.luks2_binary.specs.declared.header_search.Search.{Search}
 use Rattle.luks2_binary.specs.declared.header_search.Search.TheVariants.{Found, Passed}
-use Rattle.luks2_binary.proofs.ChoiceLemmas.{probe_primary, walk_is, walk_within}
+use Rattle.luks2_binary.proofs.ChoiceLemmas.{chosen_other, probe_primary, walk_is, walk_within}
 use Rattle.luks2_binary.proofs.ValidLemmas.{at_more, found_passes, longer, probe_fit, probe_grows}
 use Rattle.luks2_binary.proofs.ValidLemmas.{valid_more, valid_parts, valid_range, walk_same}
 
@@ -133,13 +132,13 @@ module _ (loaded : List ℕ) (offset : ℕ) (is : IsSearchOf loaded (Found offse
 
 -- ---- the header that is chosen
 
--- the header at the first offset with a valid one
-pub chosen_by : (image : List ℕ) (first : Option ℕ) → find (is_valid image) offsets ≡ first
-    → option_and_then (λ offset. if offset == 0 then with_valid_primary image
-    else header2_at image Secondary offset) first
-    ≡ chosen2_of image
-unfolding offsets chosen2_of
-chosen_by image first is = grind (arith, common_steps, primary_found)
+-- no offset has a valid header
+pub none_chosen : (image : List ℕ) → find (is_valid image) offsets ≡ None → None ≡ chosen2_of image
+unfolding offsets
+none_chosen image none = by (is_valid image 0) refl where
+  by : (b : Bool) → is_valid image 0 ≡ b → None ≡ chosen2_of image
+  by true e = absurd (let wrong : Some 0 ≡ None = rw e at none in cc)
+  by false e = sym (chosen_other image e ∙ ap (option_and_then (header2_at image Secondary)) (rw e at none))
 
 -- a valid header is at the first offset with one, and none before it
 module _ (image : List ℕ) (offset : ℕ) (first : find (is_valid image) offsets ≡ Some offset) where
@@ -153,3 +152,11 @@ module _ (image : List ℕ) (offset : ℕ) (first : find (is_valid image) offset
     by : (b : Bool) → is_valid image 0 ≡ b → Some PrimaryNotValid ≡ pair_finding_of image
     by true e = absurd (behind (let same : Some 0 ≡ Some offset = rw e at first in cc))
     by false e = rw e refl
+
+  -- it is the header there
+  pub later_chosen : (offset ≡ 0 → ⊥) → header2_at image Secondary offset ≡ chosen2_of image
+  unfolding offsets
+  later_chosen behind = by (is_valid image 0) refl where
+    by : (b : Bool) → is_valid image 0 ≡ b → header2_at image Secondary offset ≡ chosen2_of image
+    by true e = absurd (behind (let same : Some 0 ≡ Some offset = rw e at first in cc))
+    by false e = sym (chosen_other image e ∙ ap (option_and_then (header2_at image Secondary)) (rw e at first))

@@ -77,21 +77,16 @@ header2_at image role offset =
       detached = false;
     }) (checksum_hash_in binary)
 
--- the header of an image whose primary one is valid: the secondary one right after it, if that is valid with a higher
--- sequence number, and otherwise the primary
-unfoldable pub with_valid_primary : List ℕ → Option Header2
-with_valid_primary image =
-    let second = size_at image 0 in
-    if is_valid image second && nat_lt (sequence_in (binary_at image 0)) (sequence_in (binary_at image second))
-    then header2_at image Secondary second
-    else header2_at image Primary 0
-
 -- the header of an image, if it has one. If the primary one is not valid, it is the header at the lowest of the nine
--- offsets that has a valid one
+-- offsets that has a valid one. Otherwise it is the secondary one right after the primary, if that is valid with a
+-- higher sequence number, and the primary if not
 unfoldable pub chosen2_of : List ℕ → Option Header2
 chosen2_of image =
-    if is_valid image 0 then with_valid_primary image
-    else option_and_then (header2_at image Secondary) (find (is_valid image) sizes)
+    let second = size_at image 0 in
+    if not (is_valid image 0) then option_and_then (header2_at image Secondary) (find (is_valid image) sizes)
+    else if is_valid image second && nat_lt (sequence_in (binary_at image 0)) (sequence_in (binary_at image second))
+    then header2_at image Secondary second
+    else header2_at image Primary 0
 
 -- the LUKS2 header of an image that does not start as LUKS1, or the fault if it has none
 unfoldable pub header2_of : List ℕ → Result Header2 HeaderFault

@@ -1,8 +1,7 @@
 //! Which of two valid headers is chosen.
 
 ghost use Rattle.std.specs.Prelude.{◌≡◌, ◌==◌, None, Some, if◌then◌else◌, true};
-ghost use Rattle.luks2_binary.specs.Choice2.{header2_at, is_valid, pair_finding_of};
-ghost use Rattle.luks2_binary.specs.Choice2.{with_valid_primary};
+ghost use Rattle.luks2_binary.specs.Choice2.{chosen2_of, header2_at, is_valid, pair_finding_of};
 ghost use Rattle.luks2_binary.specs.declared.header.PairFinding.{PairFinding};
 
 use crate::header::{Header2, HeaderRole, PairFinding, checksum_hash_in, sequence_in, size_in};
@@ -52,10 +51,10 @@ fn finding_for(primary: u64, secondary: u64) -> Option<PairFinding>
 
 /// The header of an image whose primary one is valid: the secondary one if that is valid with a
 /// higher sequence number, and otherwise the primary.
-#[tactic(auto, unfolding(crate::specs::Choice2::with_valid_primary, crate::specs::Choice2::pair_finding_of))]
+#[tactic(auto, unfolding(crate::specs::Choice2::chosen2_of, crate::specs::Choice2::pair_finding_of))]
 pub(crate) fn with_valid_primary(bytes: &[u8]) -> Option<Header2>
     requires { is_valid bytes.now 0 ≡ true }
-    ensures { result ≡ with_valid_primary bytes.now }
+    ensures { result ≡ chosen2_of bytes.now }
 {
     let size = size_in(binary_at(bytes, 0)) as usize;
     if !is_valid(bytes, size) {

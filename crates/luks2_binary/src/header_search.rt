@@ -1,9 +1,8 @@
 //! Finds the header of an image, and how far to load it for that.
 
-ghost use Rattle.std.specs.Prelude.{◌≡◌, ℕ, ◌+◌, ◌==◌, ◌≤◌, List, Some, if◌then◌else◌, true};
+ghost use Rattle.std.specs.Prelude.{◌≡◌, ℕ, ◌+◌, ◌≤◌, List, Some, true};
 ghost use Rattle.std.specs.List.{find};
-ghost use Rattle.luks2_binary.specs.Choice2.{chosen2_of, header2_at, is_valid as is_valid_at};
-ghost use Rattle.luks2_binary.specs.Choice2.{with_valid_primary};
+ghost use Rattle.luks2_binary.specs.Choice2.{chosen2_of, is_valid as is_valid_at};
 ghost use Rattle.luks2_binary.specs.ReadLen2.{IsNextEnd, probe2_len, probe_end};
 ghost use Rattle.luks2_binary.specs.Search2.{IsSearchOf, offsets};
 ghost use Rattle.luks2_binary.specs.declared.header_search.Search.{Search};
@@ -59,8 +58,7 @@ fn first_valid(bytes: &[u8], search: Search) -> Option<u32>
 // The header of an image whose first valid header is at this offset.
 fn chosen_at(bytes: &[u8], offset: u32) -> Option<Header2>
     requires { find (is_valid_at bytes.now) offsets ≡ Some offset }
-    ensures { result ≡ (if offset == 0 then with_valid_primary bytes.now
-        else header2_at bytes.now HeaderRole.Secondary offset) }
+    ensures { result ≡ chosen2_of bytes.now }
 {
     if offset == 0 {
         return with_valid_primary(bytes);

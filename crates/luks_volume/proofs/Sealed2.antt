@@ -26,7 +26,7 @@ use Rattle.std.specs.Int.{to_be_bytes, w64}
 use Rattle.std.proofs.lemmas.Str.{is_utf8-from_IsUtf8}
 use Rattle.luks_kdf.specs.declared.hash.Hash.TheVariants.{Sha256}
 use Rattle.luks_format.specs.Header1.{is_luks1}
-use Rattle.luks2_binary.specs.Choice2.{beginning_at, with_valid_primary, binary_at, chosen2_of, header2_at, header2_of}
+use Rattle.luks2_binary.specs.Choice2.{beginning_at, binary_at, chosen2_of, header2_at, header2_of}
 use Rattle.luks2_binary.specs.Choice2.{pair_finding_of}
 use Rattle.luks2_binary.specs.Header2.{sequence_in, size_in}
 use Rattle.luks2_binary.specs.Text2.{json_text_of}
@@ -166,7 +166,7 @@ module _ (p : Seal2) (fits : AreParameters2 p) (json : FitsJson p) (back : Reads
 
   -- both headers are valid, with one sequence number
   chosen : chosen2_of (image2_of p) ≡ Some header_is
-  unfolding chosen2_of with_valid_primary header2_at pair_finding_of header_is
+  unfolding chosen2_of header2_at pair_finding_of header_is
   chosen =
       let number = be64 (to_be_bytes w64 p.seqid) in
       let same = le-ltb number number (omega arith) in

@@ -5,8 +5,13 @@ use Rattle.luks2_binary.specs.Header2.{checksum_hash_in}
 use Rattle.luks2_binary.proofs.ValidLemmas.{valid_range}
 use Rattle.luks2_binary.proofs.choice.valid_header.Goals as goal
 
-pub binary_at-requires : goal.binary_at-requires
-binary_at-requires c = (let range = valid_range c.args.bytes.now c.args.start c.requires.valid in range.0)
+pub binary_at-binary-requires : goal.binary_at-binary-requires
+binary_at-binary-requires c = (let range = valid_range c.args.bytes.now c.args.start c.requires.valid in range.0)
+
+pub overflow_cast-result : goal.overflow_cast-result
+overflow_cast-result c =
+    let range = valid_range c.args.bytes.now c.args.start c.requires.valid in
+    rw (c.size_in.ensures, c.binary_at-binary.ensures.value) (omega (arith, range.2))
 
 pub returns-in_err-hash : goal.returns-in_err-hash
 unfolding header2_at
