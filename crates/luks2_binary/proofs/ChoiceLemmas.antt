@@ -2,11 +2,10 @@
 use Rattle.std.proofs.lemmas.Grind.{common_steps}
 use Rattle.std.proofs.Common.{◌≡◌, ◌∙◌, ℕ, ◌*◌, ◌≤◌, List, ◌++◌, Option, Some, None, Bool, true}
 use Rattle.std.proofs.Common.{false, ap, sym, refl, length, max, arith}
-use Rattle.std.specs.Prelude.{Ok, nat_lt, ok_or, option_and_then}
+use Rattle.std.specs.Prelude.{nat_lt, option_and_then}
 use Rattle.std.specs.List.{find}
 use Rattle.std.proofs.lemmas.Option.{option_and_then_some}
-use Rattle.luks_format.specs.declared.fault.HeaderFault.TheVariants.{NotLuks}
-use Rattle.luks2_binary.specs.Choice2.{binary_at, chosen2_of, header2_at, header2_of, is_valid}
+use Rattle.luks2_binary.specs.Choice2.{binary_at, chosen2_of, header2_at, is_valid}
 use Rattle.luks2_binary.specs.Choice2.{fits, pair_finding_of, size_at}
 use Rattle.luks2_binary.specs.Header2.{sequence_in, size_in, sizes}
 use Rattle.luks2_binary.specs.ReadLen2.{furthest, probe2_len, probe_end}
@@ -94,9 +93,8 @@ module _ (loaded more image : List ℕ) (is : image ≡ loaded ++ more) where
 
   -- if all bytes to be read are loaded, the image has the same header, and as many of its bytes are to be read
   pub decided2 : probe2_len loaded ≤ length loaded
-      → (header2_of image ≡ header2_of loaded) × (probe2_len image ≡ probe2_len loaded)
-  unfolding header2_of
-  decided2 whole = (let same = by (is_valid loaded 0) refl in (ap (λ chosen. ok_or chosen NotLuks) same.0, same.1)) where
+      → (chosen2_of image ≡ chosen2_of loaded) × (probe2_len image ≡ probe2_len loaded)
+  decided2 whole = by (is_valid loaded 0) refl where
     within : probe_end loaded 0 ≤ length loaded
     within = omega (arith, probe_first loaded, whole)
 
@@ -179,26 +177,21 @@ module _ (image : List ℕ) (header : Header2) where
       header_at Secondary offset one own is
 
   -- the header that is chosen is at an offset of the image
-  chosen_header_at : chosen2_of image ≡ Some header → (offset : ℕ) × HasHeaderAt image header offset
-  chosen_header_at is = by (is_valid image 0) refl where
+  located : chosen2_of image ≡ Some header → (offset : ℕ) × HasHeaderAt image header offset
+  located is = by (is_valid image 0) refl where
     by : (b : Bool) → is_valid image 0 ≡ b → (offset : ℕ) × HasHeaderAt image header offset
     by true e = choice_with_primary_at e is
     by false e =
         option_and_then_some (header2_at image Secondary) (find (is_valid image) sizes) header (sym (chosen_other image e) ∙ is)
         (λ offset least made. (offset, search_result_at e offset least made))
 
-  -- the header of an image is at an offset of it
-  located : header2_of image ≡ Ok header → (offset : ℕ) × HasHeaderAt image header offset
-  unfolding header2_of
-  located is = grind (arith, common_steps, chosen_header_at)
-
 -- a header is read as an attached one
-pub read_attached : (image : List ℕ) (header : Header2) → header2_of image ≡ Ok header → header.detached ≡ false
+pub read_attached : (image : List ℕ) (header : Header2) → chosen2_of image ≡ Some header → header.detached ≡ false
 read_attached image header is = (located image header is).1.attached
 
 -- the JSON area of a header ends within the bytes that are read to choose it
 pub text_more : (loaded more image : List ℕ) → image ≡ loaded ++ more → (header : Header2)
-    → header2_of loaded ≡ Ok header → json_text_of image header ≡ json_text_of loaded header
+    → chosen2_of loaded ≡ Some header → json_text_of image header ≡ json_text_of loaded header
 unfolding json_text_of
 text_more loaded more image same header is =
     let it = located loaded header is in

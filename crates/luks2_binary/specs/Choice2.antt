@@ -1,11 +1,9 @@
 -- Which LUKS2 header an image has (LUKS2 On-Disk Format Specification 1.1, sections 2.1 and 2.2): the primary one is at
 -- the image's start, the secondary one at the offset that is its own length.
 use Rattle.std.specs.Prelude.{ℕ, ◌+◌, ◌==◌, ◌&&◌, ◌||◌, not, nat_le, nat_lt, if◌then◌else◌, Bool, List, [], ◌∷◌, Option}
-use Rattle.std.specs.Prelude.{Some, None, Result, bytes_eq, false, is_some, length, ok_or, option_and_then, option_map}
+use Rattle.std.specs.Prelude.{Some, None, bytes_eq, false, is_some, length, option_and_then, option_map}
 use Rattle.std.specs.List.{find, list_any}
 use Rattle.luks_format.specs.Fields.{at, text_of}
-use Rattle.luks_format.specs.declared.fault.HeaderFault.{HeaderFault}
-use Rattle.luks_format.specs.declared.fault.HeaderFault.TheVariants.{NotLuks}
 use Rattle.luks2_binary.specs.Checksum2.{checksum_matches}
 use Rattle.luks2_binary.specs.Header2.{binary_len, checksum_hash_in, hdr_offset_in, sequence_in, size_in, sizes}
 use Rattle.luks2_binary.specs.declared.header.PairFinding.{PairFinding}
@@ -77,7 +75,7 @@ header2_at image role offset =
       detached = false;
     }) (checksum_hash_in binary)
 
--- the header of an image, if it has one. If the primary one is not valid, it is the header at the lowest of the nine
+-- the LUKS2 header of an image, if it has one. If the primary one is not valid, it is the header at the lowest of the nine
 -- offsets that has a valid one. Otherwise it is the secondary one right after the primary, if that is valid with a
 -- higher sequence number, and the primary if not
 unfoldable pub chosen2_of : List ℕ → Option Header2
@@ -87,7 +85,3 @@ chosen2_of image =
     else if is_valid image second && nat_lt (sequence_in (binary_at image 0)) (sequence_in (binary_at image second))
     then header2_at image Secondary second
     else header2_at image Primary 0
-
--- the LUKS2 header of an image that does not start as LUKS1, or the fault if it has none
-unfoldable pub header2_of : List ℕ → Result Header2 HeaderFault
-header2_of image = ok_or (chosen2_of image) NotLuks

@@ -12,8 +12,9 @@ use Rattle.std.proofs.lemmas.Slice.Eq.{bytes_eq-Decides}
 use Rattle.luks_format.specs.declared.fault.HeaderFault.TheVariants.{NotLuks}
 use Rattle.luks_format.specs.Header1.{is_luks1}
 use Rattle.luks2_binary.specs.Choice2.{beginning_at, chosen2_of, fits}
-use Rattle.luks2_binary.specs.Choice2.{header2_at, header2_of, is_binary_of, is_valid}
+use Rattle.luks2_binary.specs.Choice2.{header2_at, is_binary_of, is_valid}
 use Rattle.luks2_binary.specs.Header2.{sizes}
+use Rattle.luks2_binary.specs.declared.header.HeaderRole.TheVariants.{Secondary}
 use Rattle.luks2_binary.proofs.ChoiceLemmas.{chosen_other}
 use Rattle.luks2_binary.proofs.ValidLemmas.{fits_parts, unfit-is_valid}
 use Rattle.luks_header.specs.Header.{header_of}
@@ -68,7 +69,7 @@ find_none test valid (offset ∷ offsets) fails none =
 
 -- bytes that fail the test have no header
 pub quiet_none : (bytes : List ℕ) → may_have_header bytes ≡ false → found_in (header_of bytes) ≡ None
-unfolding may_have_header header2_of
+unfolding may_have_header
 quiet_none bytes none =
     let parts = or_parts (begins_magic bytes) _ none in
     let unfit : (offset : ℕ) → begins_magic (drop offset bytes) ≡ false → is_valid bytes offset ≡ false =
@@ -77,8 +78,7 @@ quiet_none bytes none =
     let search : find (is_valid bytes) sizes ≡ None = grind (arith, common_steps, find_none) in
     let chosen : chosen2_of bytes ≡ None =
     chosen_other bytes first ∙ ap (option_and_then (header2_at bytes Secondary)) search in
-    ap found_in (header_other bytes (first_magic bytes parts.0) (Err NotLuks)
-    (ap (λ c. ok_or c NotLuks) chosen))
+    ap found_in (header_other bytes (first_magic bytes parts.0) None chosen)
 
 -- nothing has no header
 pub nothing_none : found_in (header_of []) ≡ None

@@ -22,7 +22,7 @@ use Rattle.luks_format.specs.declared.fault.HeaderFault.TheVariants.{Cut, Json, 
 use Rattle.luks_format.specs.Header1.{header1_len, header1_of, is_luks1}
 use Rattle.luks_format.specs.Segment1.{is_key_length1}
 use Rattle.luks_format.specs.Slot1.{payload1_start}
-use Rattle.luks2_binary.specs.Choice2.{header2_of}
+use Rattle.luks2_binary.specs.Choice2.{chosen2_of}
 use Rattle.luks2_binary.specs.Text2.{json_text_of}
 use Rattle.luks2_binary.specs.declared.header.Header2.{Header2}
 use Rattle.luks2_binary.proofs.ChoiceLemmas.{read_attached, probe_some}
@@ -123,17 +123,17 @@ pub is_attached : (image : List ℕ) (header : Header) → header_of image ≡ O
 unfolding header_of is_detached header1_of
 is_attached image header is = by (is_luks1 image) refl
   where
-    of_tree : (second : Header2) → header2_of image ≡ Ok second → (tree : Option Data)
+    of_tree : (second : Header2) → chosen2_of image ≡ Some second → (tree : Option Data)
         → ok_or (option_map (V2 second) tree) Json ≡ Ok header → is_detached header ≡ false
     of_tree second found None h = absurd cc
     of_tree second found (Some tree) h =
         let same : V2 second tree ≡ header = cc in
         subst (λ r. is_detached r ≡ false) same (read_attached image second found)
 
-    of_second : (read : Result Header2 HeaderFault) → header2_of image ≡ read → with_text image read ≡ Ok header
+    of_second : (read : Option Header2) → chosen2_of image ≡ read → with_text image read ≡ Ok header
         → is_detached header ≡ false
-    of_second (Ok second) e h = of_tree second e (tree_of (json_text_of image second)) h
-    of_second (Err fault) e h = absurd cc
+    of_second (Some second) e h = of_tree second e (tree_of (json_text_of image second)) h
+    of_second None e h = absurd cc
 
     of_first : (short : Bool) → (if short then Err Cut else Ok (V1 (header1_of (at 0 header1_len image)))) ≡ Ok header
         → is_detached header ≡ false
@@ -144,7 +144,7 @@ is_attached image header is = by (is_luks1 image) refl
 
     by : (first : Bool) → is_luks1 image ≡ first → is_detached header ≡ false
     by true e = of_first (nat_lt (length image) header1_len) (rw e at is)
-    by false e = of_second (header2_of image) refl (rw e at is)
+    by false e = of_second (chosen2_of image) refl (rw e at is)
 
 -- with an attached header, the key material of a key slot that can be tried ends at or before the payload's start
 pub before_payload : (header : Header) (segment : Segment) (limits : Limits) (number : ℕ) (slot : Slot)

@@ -1,5 +1,5 @@
 -- The loaded start of an image, step by step, until it decides which header the image has.
-use Rattle.std.proofs.Common.{◌≡◌, ◌∙◌, ℕ, ◌<◌, ◌≤◌, inl, inr, List, [], ◌++◌, Option, Some, Bool, true, false}
+use Rattle.std.proofs.Common.{◌≡◌, ◌∙◌, ℕ, ◌<◌, ◌≤◌, inl, inr, List, [], ◌++◌, Option, Some, None, Bool, true, false}
 use Rattle.std.proofs.Common.{Result, Ok, Err, ap, arith, append-nil, drop, length, length-append}
 use Rattle.std.proofs.Common.{refl, subst, sym, take}
 use Rattle.std.specs.Prelude.{if◌then◌else◌, not, ok_or, option_map, IsTrue, ◌↔◌}
@@ -10,7 +10,7 @@ use Rattle.luks_format.specs.Area.{HeaderAreaModel, IsStart, Loads}
 use Rattle.luks_format.specs.declared.fault.HeaderFault.{HeaderFault}
 use Rattle.luks_format.specs.declared.fault.HeaderFault.TheVariants.{Json, Read, Memory, NotLuks, Cut}
 use Rattle.luks_format.specs.Header1.{is_luks1}
-use Rattle.luks2_binary.specs.Choice2.{header2_of}
+use Rattle.luks2_binary.specs.Choice2.{chosen2_of}
 use Rattle.luks2_binary.specs.declared.header.Header2.{Header2}
 use Rattle.luks2_binary.specs.ReadLen2.{IsNextEnd, probe2_len}
 use Rattle.luks2_binary.specs.Search2.{IsSearchOf}
@@ -27,8 +27,8 @@ use Rattle.std.proofs.Math.Seq.{take-append_seam}
 use Rattle.luks_header.proofs.KnownLemmas.{probe_is, short_from_not_whole}
 
 -- if the image does not start as LUKS1, it has the LUKS2 header with its JSON text, or none
-pub header_other : (image : List ℕ) → is_luks1 image ≡ false → (read : Result Header2 HeaderFault)
-    → header2_of image ≡ read → header_of image ≡ with_text image read
+pub header_other : (image : List ℕ) → is_luks1 image ≡ false → (read : Option Header2)
+    → chosen2_of image ≡ read → header_of image ≡ with_text image read
 unfolding header_of
 header_other image other read is = rw (other, is) refl
 
@@ -45,11 +45,11 @@ module _ (loaded more image : List ℕ) (is : image ≡ loaded ++ more) where
   unfolding is_luks1
   luks1_same long = rw (at_more loaded more image is 0 8 (omega (arith, long))) refl
 
-  text_same : (read : Result Header2 HeaderFault) → header2_of loaded ≡ read
+  text_same : (read : Option Header2) → chosen2_of loaded ≡ read
       → with_text image read ≡ with_text loaded read
-  text_same (Ok header) found =
+  text_same (Some header) found =
       ap (λ text. ok_or (option_map (V2 header) (tree_of text)) Json) (text_more loaded more image is header found)
-  text_same (Err fault) found = refl
+  text_same None found = refl
 
   pub decided : probe_len loaded ≤ length loaded → HaveOneHeader loaded image
   unfolding header_of probe_len
@@ -74,7 +74,7 @@ module _ (loaded more image : List ℕ) (is : image ≡ loaded ++ more) where
     by false e =
         let same = decided2 loaded more image is (rw e at whole) in
         record {
-          header = rw (alike, e, same.0) (text_same (header2_of loaded) refl);
+          header = rw (alike, e, same.0) (text_same (chosen2_of loaded) refl);
           probe = rw (alike, e) same.1;
           second = λ has. (has.0, alike ∙ e, same.0 ∙ has.2);
         }

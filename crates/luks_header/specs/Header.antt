@@ -1,10 +1,10 @@
 -- Which header an image has, and how many of its bytes are read for it.
-use Rattle.std.specs.Prelude.{◌≡◌, ◌⊎◌, ℕ, Bool, true, false, List, Option, Result, Ok, Err, length, min}
+use Rattle.std.specs.Prelude.{◌≡◌, ◌⊎◌, ℕ, Bool, true, false, List, Option, Some, None, Result, Ok, Err, length, min}
 use Rattle.std.specs.Prelude.{◌*◌, nat_lt, if◌then◌else◌, ok_or, option_map}
 use Rattle.luks_io.specs.Devices.{ConsumedExactly, ConsumedFewer, ConsumedAtMost, counted}
 use Rattle.luks_format.specs.Fields.{at}
 use Rattle.luks_format.specs.Header1.{header1_len, header1_of, is_luks1}
-use Rattle.luks2_binary.specs.Choice2.{header2_of}
+use Rattle.luks2_binary.specs.Choice2.{chosen2_of}
 use Rattle.luks2_binary.specs.ReadLen2.{probe2_len}
 use Rattle.luks2_binary.specs.Text2.{json_text_of}
 use Rattle.luks2_binary.specs.declared.header.Header2.{Header2}
@@ -13,7 +13,7 @@ use Rattle.luks2_metadata.specs.declared.bounds.Bounds.{Bounds}
 use Rattle.luks_header.specs.declared.header.Header.{Header}
 use Rattle.luks_header.specs.declared.header.Header.TheVariants.{V1, V2}
 use Rattle.luks_format.specs.declared.fault.HeaderFault.{HeaderFault}
-use Rattle.luks_format.specs.declared.fault.HeaderFault.TheVariants.{Cut, Json, Read, Memory}
+use Rattle.luks_format.specs.declared.fault.HeaderFault.TheVariants.{NotLuks, Cut, Json, Read, Memory}
 
 -- the header is detached: it is in another file than the payload
 unfoldable pub is_detached : Header → Bool
@@ -31,16 +31,16 @@ unfoldable pub bounds2_of : Header2 → Bounds
 bounds2_of header = record { end = 2 * header.size; detached = header.detached }
 
 -- the LUKS2 header of these bytes, if they have a binary header and its JSON text can be read
-abbrev pub with_text : List ℕ → Result Header2 HeaderFault → Result Header HeaderFault
-with_text image (Ok header) = ok_or (option_map (V2 header) (tree_of (json_text_of image header))) Json
-with_text image (Err fault) = Err fault
+abbrev pub with_text : List ℕ → Option Header2 → Result Header HeaderFault
+with_text image (Some header) = ok_or (option_map (V2 header) (tree_of (json_text_of image header))) Json
+with_text image None = Err NotLuks
 
 -- the header of an image, or why there is none
 unfoldable pub header_of : List ℕ → Result Header HeaderFault
 header_of image =
     if is_luks1 image then (if nat_lt (length image) header1_len then Err Cut else Ok
     (V1 (header1_of (at 0 header1_len image))))
-    else with_text image (header2_of image)
+    else with_text image (chosen2_of image)
 
 -- the number of bytes of the image that are read to learn which header it has
 unfoldable pub header_read_len : List ℕ → ℕ
@@ -66,7 +66,7 @@ ConsumedBeforeProbe image left ends ends' = ConsumedFewer image left (probe_len 
 
 -- the image has a binary LUKS2 header
 abbrev pub HasHeader2 : List ℕ → Type 0
-HasHeader2 image = (header : Header2) × (is_luks1 image ≡ false) × (header2_of image ≡ Ok header)
+HasHeader2 image = (header : Header2) × (is_luks1 image ≡ false) × (chosen2_of image ≡ Some header)
 
 -- no header was read, for this reason: a read failed, at any point; memory ran out, either during the search or, with a
 -- binary LUKS2 header, for the tree of its JSON text; or the image has none, which is any other fault

@@ -77,7 +77,7 @@ pub fn header_of_bytes(alloc: Global, bytes: &[u8]) -> Result<Header, HeaderFaul
 }
 
 // The same, if the search for a LUKS2 header came so far in these bytes.
-#[tactic(auto, unfolding(crate::specs::Header::header_of, luks2_binary::specs::Choice2::header2_of))]
+#[tactic(auto, unfolding(crate::specs::Header::header_of))]
 fn header_found(alloc: Global, bytes: &[u8], search: Search) -> Result<Header, HeaderFault>
     requires { IsSearchOf bytes.now search }
     ensures ok { IfOk result (λ header. header_of bytes.now ≡ Ok header) }

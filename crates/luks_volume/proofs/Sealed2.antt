@@ -26,7 +26,7 @@ use Rattle.std.specs.Int.{to_be_bytes, w64}
 use Rattle.std.proofs.lemmas.Str.{is_utf8-from_IsUtf8}
 use Rattle.luks_kdf.specs.declared.hash.Hash.TheVariants.{Sha256}
 use Rattle.luks_format.specs.Header1.{is_luks1}
-use Rattle.luks2_binary.specs.Choice2.{beginning_at, binary_at, chosen2_of, header2_at, header2_of}
+use Rattle.luks2_binary.specs.Choice2.{beginning_at, binary_at, chosen2_of, header2_at}
 use Rattle.luks2_binary.specs.Choice2.{pair_finding_of}
 use Rattle.luks2_binary.specs.Header2.{sequence_in, size_in}
 use Rattle.luks2_binary.specs.Text2.{json_text_of}
@@ -190,7 +190,7 @@ module _ (p : Seal2) (fits : AreParameters2 p) (json : FitsJson p) (back : Reads
 
   -- reading the image gives this header and the metadata
   pub header_read : read_header (image2_of p) ≡ Ok (V2 header_is (metadata_of p))
-  unfolding read_header header2_of tree_of has_objects metadata_of
+  unfolding read_header tree_of has_objects metadata_of
   header_read = rw (not_luks1, chosen, text_there, is_utf8-from_IsUtf8 (json_of p) back.0, back.1) refl
 
   -- the header sets these bounds
