@@ -18,17 +18,14 @@ use Rattle.luks_format.specs.declared.header.Header1.{Header1}
 abbrev pub is_key_length1 : Option Mode → ℕ → Bool
 is_key_length1 known n = option_map_or (λ mode. is_mode_key_length mode n) known false
 
--- the payload starts inside an attached header. (It starts at a multiple of 512 bytes.)
-unfoldable pub overlaps_header1 : Header1 → Bool
-overlaps_header1 header = not header.detached && nat_lt (512 * header.payload_offset) header1_len
-
--- the possible faults of the segment
+-- the possible faults of the segment. The last is that it starts inside an attached header. (It starts at a multiple of
+-- 512 bytes.)
 unfoldable pub segment_faults1 : Header1 → List (Bool × SegmentFault)
 segment_faults1 header =
     (is_none (mode1_of header), Encryption)
     ∷ (is_none (hash1_of header), Hash)
     ∷ (not (is_key_length1 (mode1_of header) header.key_bytes), KeyBytes)
-    ∷ (overlaps_header1 header, Offset)
+    ∷ (not header.detached && nat_lt (512 * header.payload_offset) header1_len, Offset)
     ∷ []
 
 -- the segment of a header, or its first fault. It goes to the image's end, and its sectors of 512 bytes are numbered

@@ -1,9 +1,10 @@
 //! Verdicts on the key slots, the digest and the segment of a header.
 
-ghost use Rattle.std.specs.Prelude.{◌≡◌, ◌*◌, option_map, IfOk};
+ghost use Rattle.std.specs.Prelude.{◌≡◌, ◌*◌, ◌&&◌, not, nat_lt, option_map, IfOk};
+ghost use Rattle.luks_format.specs.Header1.{header1_len};
 ghost use Rattle.luks_format.specs.Slot.{digest_from, has_no_usable_digest, verdict_kind_of};
 ghost use Rattle.luks_format.specs.Table.{first_match};
-ghost use Rattle.luks_format.specs.Segment1.{overlaps_header1, segment1_of, segment_faults1};
+ghost use Rattle.luks_format.specs.Segment1.{segment1_of, segment_faults1};
 ghost use Rattle.luks_format.specs.Slot1.{area1_out_of_range, digest_parts1_of, hash1_of};
 ghost use Rattle.luks_format.specs.Slot1.{mode1_of, payload1_start, slot1_at};
 ghost use Rattle.luks_format.specs.Slot1.{slot1_of, slot_reasons1, verdict1_at, verdict1_of};
@@ -186,9 +187,9 @@ pub fn digest(alloc: Global, header: &Header1) -> Result<Option<KeyDigest>, Allo
 }
 
 // Whether the payload starts inside an attached header.
-#[tactic(auto, unfolding(crate::specs::Segment1::overlaps_header1))]
 fn overlaps_header1(header: &Header1) -> bool
-    ensures { result ≡ overlaps_header1 header.now }
+    ensures { result ≡ (not header.now.detached
+        && nat_lt (512 * header.now.payload_offset) header1_len) }
 {
     !header.detached && sector_offset(header.payload_offset) < HEADER_END
 }

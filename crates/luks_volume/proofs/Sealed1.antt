@@ -10,7 +10,7 @@ use Rattle.luks_format.specs.declared.sector_size.SectorSize.TheVariants.{B512}
 use Rattle.luks_format.specs.declared.slot.Verdict.TheVariants.{Usable}
 use Rattle.luks_format.proofs.MadeLemmas.{are_in_range, digest_from-yes, digest_of, is_usable, no_usable_digest-yes}
 use Rattle.luks_format.proofs.MadeLemmas.{segment_by, slot_from-yes, slot_of}
-use Rattle.luks_format.specs.Segment1.{segment1_of, segment_faults1, overlaps_header1}
+use Rattle.luks_format.specs.Segment1.{segment1_of, segment_faults1}
 use Rattle.luks_format.specs.Slot1.{digest_parts1_of, hash1_of, area1_out_of_range, mode1_of}
 use Rattle.luks_format.specs.Slot1.{payload1_start, slot_reasons1, slot1_of, slot_parts1_of, verdict1_of, verdict1_at}
 use Rattle.luks_format.proofs.ValidationLemmas.{segment1-none, slot_there}
@@ -67,7 +67,7 @@ module _ (p : Seal1) (fits : AreParameters1 p) (typed : AreTyped1 p) where
   -- ---- the segment
 
   no_fault : first_match (segment_faults1 (found_header p)) ≡ None
-  unfolding segment_faults1 overlaps_header1
+  unfolding segment_faults1
   no_fault =
       rw (mode1_is, hash1_is, fits.key, le-ltb (512 * p.payload_sectors) 592 (omega (arith, fits.counts.3))) refl
 
