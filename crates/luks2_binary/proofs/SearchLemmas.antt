@@ -1,11 +1,11 @@
 -- The search for the first valid header: what it has checked need not be checked again when more bytes are loaded.
 use Rattle.std.proofs.Common.{rules}
 use Rattle.std.proofs.lemmas.Grind.{common_steps}
-use Rattle.std.proofs.Common.{◌≡◌, ◌∙◌, ℕ, ◌+◌, ◌<◌, ◌≤◌, ◌==◌, List, [], ◌∷◌, ◌++◌, Option, Some, None, Bool, true}
+use Rattle.std.proofs.Common.{◌≡◌, ◌∙◌, ℕ, ◌+◌, ◌<◌, ◌≤◌, ◌==◌, List, [], ◌∷◌, ◌++◌, Some, None, Bool, true}
 use Rattle.std.proofs.Common.{false, add-one, ap, arith, drop, drop-cons, get_or, length, max, refl, sym, take}
 use Rattle.std.proofs.lemmas.List.{take-append-drop, take_all, take_more}
 use Rattle.std.proofs.lemmas.List.Folds.{find-append}
-use Rattle.std.specs.Prelude.{option_and_then, if◌then◌else◌, ◌*◌}
+use Rattle.std.specs.Prelude.{option_and_then, ◌*◌}
 use Rattle.std.specs.List.{find}
 use Rattle.std.proofs.lemmas.Bool.{ne_eqb}
 use Rattle.luks2_binary.specs.Choice2.{chosen2_of, header2_at, is_valid, pair_finding_of, size_at}

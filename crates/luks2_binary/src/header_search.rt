@@ -1,6 +1,6 @@
 //! Finds the header of an image, and how far to load it for that.
 
-ghost use Rattle.std.specs.Prelude.{◌≡◌, ℕ, ◌+◌, ◌≤◌, List, Some, true};
+ghost use Rattle.std.specs.Prelude.{◌≡◌, ℕ, ◌+◌, ◌≤◌, List, Some};
 ghost use Rattle.std.specs.List.{find};
 ghost use Rattle.luks2_binary.specs.Choice2.{chosen2_of, is_valid as is_valid_at};
 ghost use Rattle.luks2_binary.specs.ReadLen2.{IsNextEnd, probe2_len, probe_end};

@@ -3,13 +3,12 @@ use Rattle.std.proofs.Common.{rules}
 use Rattle.std.proofs.lemmas.Grind.{common_steps}
 use Rattle.std.proofs.Common.{◌≡◌, ◌∙◌, ℕ, ◌+◌, ◌*◌, ◌<◌, ◌≤◌, ◌++◌}
 use Rattle.std.proofs.Common.{List, [], ◌∷◌, Bool, true, false, None, ap, sym}
-use Rattle.std.proofs.Common.{refl, length, take, drop, arith, Err, ◌==◌}
-use Rattle.std.specs.Prelude.{map, nat_le, if◌then◌else◌, ok_or, option_and_then}
+use Rattle.std.proofs.Common.{refl, length, take, drop, arith, ◌==◌}
+use Rattle.std.specs.Prelude.{map, nat_le, if◌then◌else◌, option_and_then}
 use Rattle.std.specs.List.{find, list_all, list_any}
 use Rattle.std.proofs.lemmas.Bool.{and_parts, false_from_ne_true, leb-true, ltb-false, ltb-true, or_parts}
 use Rattle.std.proofs.lemmas.List.{drop-drop, drop_all, take-append-le, take-take}
 use Rattle.std.proofs.lemmas.Slice.Eq.{bytes_eq-Decides}
-use Rattle.luks_format.specs.declared.fault.HeaderFault.TheVariants.{NotLuks}
 use Rattle.luks_format.specs.Header1.{is_luks1}
 use Rattle.luks2_binary.specs.Choice2.{beginning_at, chosen2_of, fits}
 use Rattle.luks2_binary.specs.Choice2.{header2_at, is_binary_of, is_valid}

@@ -1,7 +1,7 @@
 -- Properties of headers, whatever their format: how they are read, and their key slots and digests.
 use Rattle.std.proofs.lemmas.Bool.{cases_lt, ltb-false}
 use Rattle.std.proofs.Common.{◌≡◌, ◌∙◌, ℕ, ◌≤◌, ap, refl, sym, subst, Bool, true, false, List, length, Option, Some, None}
-use Rattle.std.proofs.Common.{Result, Ok, Err, ◌<◌, inl, inr, min}
+use Rattle.std.proofs.Common.{Ok, Err, ◌<◌, inl, inr, min}
 use Rattle.std.proofs.Common.{arith}
 use Rattle.std.proofs.lemmas.Option.{same_Some}
 use Rattle.std.specs.Prelude.{nat_lt, if◌then◌else◌, IsTrue, ◌↔◌, ok_or, option_map}
@@ -17,7 +17,6 @@ use Rattle.luks_format.specs.declared.slot.Slot.{Slot}
 use Rattle.luks_format.specs.declared.slot.Verdict.TheVariants.{Usable}
 use Rattle.luks_format.proofs.ValidationLemmas.{IsReadable-ok, slot_usable_at}
 use Rattle.luks_format.specs.Fields.{at}
-use Rattle.luks_format.specs.declared.fault.HeaderFault.{HeaderFault}
 use Rattle.luks_format.specs.declared.fault.HeaderFault.TheVariants.{Cut, Json, Memory}
 use Rattle.luks_format.specs.Header1.{header1_len, header1_of, is_luks1}
 use Rattle.luks_format.specs.Segment1.{is_key_length1}

@@ -1,6 +1,6 @@
 -- The loaded start of an image, step by step, until it decides which header the image has.
 use Rattle.std.proofs.Common.{◌≡◌, ◌∙◌, ℕ, ◌<◌, ◌≤◌, inl, inr, List, [], ◌++◌, Option, Some, None, Bool, true, false}
-use Rattle.std.proofs.Common.{Result, Ok, Err, ap, arith, append-nil, drop, length, length-append}
+use Rattle.std.proofs.Common.{Ok, Err, ap, arith, append-nil, drop, length, length-append}
 use Rattle.std.proofs.Common.{refl, subst, sym, take}
 use Rattle.std.specs.Prelude.{if◌then◌else◌, not, ok_or, option_map, IsTrue, ◌↔◌}
 use Rattle.std.proofs.lemmas.Bool.{le-ltb, lt-ltb}

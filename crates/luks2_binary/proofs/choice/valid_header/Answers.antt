@@ -1,5 +1,5 @@
 use Rattle.std.proofs.lemmas.Grind.{common_steps}
-use Rattle.std.proofs.Common.{◌≡◌, ◌∙◌, ap, arith, sym, Some, None}
+use Rattle.std.proofs.Common.{◌≡◌, ◌∙◌, arith, sym, Some}
 use Rattle.luks2_binary.specs.Choice2.{header2_at}
 use Rattle.luks2_binary.specs.Header2.{checksum_hash_in}
 use Rattle.luks2_binary.proofs.ValidLemmas.{valid_range}
