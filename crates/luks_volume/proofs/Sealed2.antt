@@ -2,7 +2,7 @@
 -- stored, the primary header that a reader finds, with the metadata, and the key slots, which it can try.
 use Rattle.std.proofs.Common.{◌≡◌, ◌∙◌, ◌==◌, ℕ, zero, suc, ◌+◌, ◌-◌, ◌*◌, ◌/◌, ◌<◌, List, [], length, Some}
 use Rattle.std.proofs.Common.{None, refl, sym, ap, arith, length-append, take_at, ◌≢◌, ◌≤◌, ◌++◌, replicate, Ok, true}
-use Rattle.std.proofs.Common.{false, get_or, slice_index, Bool, subst, le-ltb, ne_eqb, ◌∷◌, one-add}
+use Rattle.std.proofs.Common.{false, get_or, slice_index, Bool, subst, eq-eqb, le-ltb, ne_eqb, ◌∷◌, one-add}
 use Rattle.std.specs.Option.{option_map_or}
 use Rattle.luks_format.specs.Fields.{at, be64, text_of}
 use Rattle.luks_kdf.specs.Bytes.{joined}
@@ -169,8 +169,10 @@ module _ (p : Seal2) (fits : AreParameters2 p) (json : FitsJson p) (back : Reads
   unfolding chosen2_of header2_at pair_finding_of header_is
   chosen =
       let number = be64 (to_be_bytes w64 p.seqid) in
-      let same = le-ltb number number (omega arith) in
-      rw (primary.valid, primary.size, secondary.valid, primary.sequence, secondary.sequence, same, primary.hash) refl
+      let no_later = le-ltb number number (omega arith) in
+      let same = eq-eqb number number refl in
+      rw (primary.valid, primary.size, secondary.valid, primary.sequence, secondary.sequence, no_later, same)
+      (rw primary.hash refl)
 
   -- the image does not begin like an image of LUKS1
   not_luks1 : is_luks1 (image2_of p) ≡ false
