@@ -69,9 +69,9 @@ opened_line number = codes "Key slot " ++ decimal number ++ codes " opens the vo
 unfoldable pub not_opened_line : List ℕ → List ℕ
 not_opened_line name = message_line (codes "cannot open " ++ name)
 
--- the line for a header that was not read
-abbrev pub unread_line : HeaderFault → List ℕ
-unread_line fault = fault_sentence fault ++ 10 ∷ []
+-- why no header was read, on a line
+abbrev pub header_fault_line : HeaderFault → List ℕ
+header_fault_line fault = fault_sentence fault ++ 10 ∷ []
 
 -- the line that is printed for a message, or nothing if it has none
 abbrev pub line_of : Message → List ℕ
@@ -88,17 +88,17 @@ line_of (NothingTried skips) = message_line (codes "no key slot can be tried" ++
 line_of KeyFileLength = message_line (codes "key file is longer than 8388608 bytes")
 line_of (NoKey skips) = message_line (codes "no key opens the volume" ++ skips_text skips)
 line_of Findings = message_line (codes "the header has findings")
-line_of NotLuks = unread_line H.NotLuks
-line_of Cut = unread_line H.Cut
-line_of Json = unread_line H.Json
+line_of NotLuks = header_fault_line H.NotLuks
+line_of Cut = header_fault_line H.Cut
+line_of Json = header_fault_line H.Json
 line_of CutBeforePayload = message_line (codes "image ends before the payload")
 line_of (Tail bytes) = message_line (codes "image ends inside a sector: " ++ decimal bytes ++ codes " bytes left over")
 line_of (Short bytes) = message_line (codes "image ends " ++ decimal bytes ++ codes " bytes before the segment does")
 line_of KeyLength = message_line (codes "key must be 1 to 512 bytes")
 line_of FewRandomBytes = message_line (codes "random bytes are too few")
 line_of FewStripes = message_line (codes "stripes are too few")
-line_of OutOfMemory = unread_line H.Memory
-line_of ReadFailed = unread_line H.Read
+line_of OutOfMemory = header_fault_line H.Memory
+line_of ReadFailed = header_fault_line H.Read
 line_of WriteFailed = message_line (codes "write failed")
 
 -- the exit status for a message

@@ -6,7 +6,7 @@ ghost use Rattle.luks_io.specs.Counts.{Writes};
 ghost use Rattle.luks_io.specs.Devices.{Appended};
 ghost use Rattle.luks_report.specs.Texts.{message_line, line_of, more_skips_text, skip_text};
 ghost use Rattle.luks_report.specs.Texts.{argon2_memory_text, asked_text, first_skip_text};
-ghost use Rattle.luks_report.specs.Texts.{skips_text, unread_line};
+ghost use Rattle.luks_report.specs.Texts.{header_fault_line, skips_text};
 ghost use Rattle.luks_header.specs.SkipReason.{asked_kib};
 
 use crate::header_fault::fault_sentence;
@@ -53,9 +53,9 @@ impl Message {
             Message::KeyFileLength => sentence("key file is longer than 8388608 bytes", ""),
             Message::NoKey(skipped) => with_skipped("no key opens the volume", skipped),
             Message::Findings => sentence("the header has findings", ""),
-            Message::NotLuks => of_header(HeaderFault::NotLuks),
-            Message::Cut => of_header(HeaderFault::Cut),
-            Message::Json => of_header(HeaderFault::Json),
+            Message::NotLuks => header_fault_line(HeaderFault::NotLuks),
+            Message::Cut => header_fault_line(HeaderFault::Cut),
+            Message::Json => header_fault_line(HeaderFault::Json),
             Message::CutBeforePayload => sentence("image ends before the payload", ""),
             Message::Tail(left) => {
                 of_bytes("image ends inside a sector: ", *left, " bytes left over")
@@ -66,8 +66,8 @@ impl Message {
             Message::KeyLength => sentence("key must be 1 to 512 bytes", ""),
             Message::FewRandomBytes => sentence("random bytes are too few", ""),
             Message::FewStripes => sentence("stripes are too few", ""),
-            Message::OutOfMemory => of_header(HeaderFault::Memory),
-            Message::ReadFailed => of_header(HeaderFault::Read),
+            Message::OutOfMemory => header_fault_line(HeaderFault::Memory),
+            Message::ReadFailed => header_fault_line(HeaderFault::Read),
             Message::WriteFailed => sentence("write failed", ""),
         }
     }
@@ -96,10 +96,10 @@ fn text(text: &str) -> Line
     whole
 }
 
-// The line for a header that was not read.
+// Why no header was read, on a line.
 #[tactic(auto, using(crate::proofs::Lengths::sentence_len))]
-fn of_header(fault: HeaderFault) -> Line
-    ensures { result ≡ unread_line fault }
+fn header_fault_line(fault: HeaderFault) -> Line
+    ensures { result ≡ header_fault_line fault }
 {
     let mut whole = Line::new();
     whole.push(fault_sentence(fault));
