@@ -27,9 +27,11 @@ use Rattle.luks_access.specs.Opens.{Opens, Refuses}
 use Rattle.luks_access.specs.Sectors.{plain_in}
 use Rattle.luks_format.specs.Area.{max_loaded_len}
 use Rattle.luks_open.specs.Fault.{aborts_opening, is_read_failure}
+use Rattle.luks_format.specs.declared.fault.HeaderFault.TheVariants as H
 use Rattle.luks_open.specs.declared.fault.VolumeFault.{VolumeFault}
 use Rattle.luks_open.specs.declared.fault.VolumeFault.TheVariants.{Argon2Memory}
 use Rattle.luks_report.specs.Faults.{message_for_payload, message_for_volume}
+use Rattle.luks_report.specs.HeaderFault.{fault_sentence}
 use Rattle.luks_payload.specs.declared.fault.PayloadFault.{PayloadFault}
 use Rattle.luks_payload.specs.declared.fault.PayloadFault.TheVariants.{Tail as FaultTail, Short as FaultShort}
 use Rattle.luks_payload.specs.declared.fault.PayloadFault.TheVariants.{CutBeforePayload as FaultCut}
@@ -58,9 +60,9 @@ code_for _ = 11
 abbrev pub sentence_for : ℕ → ℕ × List ℕ
 sentence_for code =
     if code == 0 then (0, [])
-    else if code == 1 then (4, codes "luksrd: not a LUKS image")
-    else if code == 2 then (4, codes "luksrd: image ends inside the header or a key area")
-    else if code == 3 then (4, codes "luksrd: LUKS2 JSON area is not readable")
+    else if code == 1 then (4, fault_sentence H.NotLuks)
+    else if code == 2 then (4, fault_sentence H.Cut)
+    else if code == 3 then (4, fault_sentence H.Json)
     else if code == 4 then (1, codes "luksrd: segment refused")
     else if code == 5 then (1, codes "luksrd: key slot is not there")
     else if code == 6 then (1, codes "luksrd: key slot is disabled")
@@ -68,7 +70,7 @@ sentence_for code =
     else if code == 8 then (1, codes "luksrd: no key slot can be tried")
     else if code == 9 then (1, codes "luksrd: key file is longer than 8388608 bytes")
     else if code == 10 then (2, codes "luksrd: no key opens the volume")
-    else if code == 11 then (3, codes "luksrd: out of memory")
+    else if code == 11 then (3, fault_sentence H.Memory)
     else if code == 12 then (4, codes "luksrd: image ends before the payload")
     else if code == 13 then (4, codes "luksrd: image ends inside a sector")
     else if code == 14 then (4, codes "luksrd: image ends before the segment does")
