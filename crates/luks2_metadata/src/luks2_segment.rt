@@ -118,9 +118,9 @@ fn has_members(segment: &Value) -> bool
         && integer_member(segment, "sector_size").is_some()
 }
 
-// The segment's type is a string, and a segment of type crypt has its members.
+/// The segment's type is a string, and a segment of type crypt has its members.
 #[tactic(auto, unfolding(crate::specs::Segment2::is_segment))]
-fn is_segment(segment: &Value) -> bool
+pub fn is_segment(segment: &Value) -> bool
     ensures { result ≡ is_segment (data_of segment.now) }
 {
     string_member(segment, "type").is_some() && (!is_type(segment, "crypt") || has_members(segment))

@@ -1,16 +1,16 @@
 //! Whether members of the JSON area are there, and of the standard's JSON types.
 
-ghost use Rattle.std.specs.Prelude.{◌≡◌, codes, is_some, option_map};
+ghost use Rattle.std.specs.Prelude.{◌≡◌, codes, option_map};
 ghost use Rattle.luks2_json.specs.Member.{in_member, passes};
-ghost use Rattle.luks2_metadata.specs.Segment2.{has_segment_members, is_segment, size_member};
 ghost use Rattle.luks_audit.specs.Shape.{has_integrity, has_segment, has_slot_type, has_string};
 ghost use Rattle.luks_audit.specs.Shape.{is_integrity, names_requirements};
 ghost use Rattle.serde_json.specs.Find.{get};
 ghost use Rattle.serde_json.specs.View.{view as data_of};
 
 use luks2_json::list::has_strings;
-use luks2_json::member::{decimal_member, integer_member, is_type, string_is, string_member};
+use luks2_json::member::string_member;
 use luks2_json::numbered::object_numbered;
+use luks2_metadata::luks2_segment::is_segment;
 use serde_json::Value;
 
 // Whether a string is under this name.
@@ -39,35 +39,7 @@ pub(crate) fn names_requirements(tree: &Value) -> bool
     }
 }
 
-// Whether a segment has a length.
-#[tactic(auto, unfolding(luks2_metadata::specs::Segment2::size_member))]
-fn has_size(segment: &Value) -> bool
-    ensures { result ≡ is_some (size_member (data_of segment.now)) }
-{
-    string_is(segment, "size", "dynamic") || decimal_member(segment, "size").is_some()
-}
-
-// Whether a segment has all members of type `crypt`.
-#[tactic(auto, unfolding(luks2_metadata::specs::Segment2::has_segment_members))]
-fn has_segment_members(segment: &Value) -> bool
-    ensures { result ≡ has_segment_members (data_of segment.now) }
-{
-    decimal_member(segment, "offset").is_some()
-        && has_size(segment)
-        && decimal_member(segment, "iv_tweak").is_some()
-        && has_string(segment, "encryption")
-        && integer_member(segment, "sector_size").is_some()
-}
-
-// Whether a segment names its type, and has the members of that if it is `crypt`.
-#[tactic(auto, unfolding(luks2_metadata::specs::Segment2::is_segment))]
-fn is_segment(segment: &Value) -> bool
-    ensures { result ≡ is_segment (data_of segment.now) }
-{
-    has_string(segment, "type") && (!is_type(segment, "crypt") || has_segment_members(segment))
-}
-
-/// Whether segment 0 is there, and is such a segment.
+/// Whether segment 0 is there; if its type is `crypt`, it has the members of that type.
 #[tactic(auto, unfolding(crate::specs::Shape::has_segment))]
 pub(crate) fn has_segment(tree: &Value) -> bool
     ensures { result ≡ has_segment (data_of tree.now) }
