@@ -18,6 +18,7 @@ use crate::tree::{Array, Object, Tree};
 use crate::verdict::{is_kind_usable, kind_text, reason_text};
 use luks_header::header::{HeaderRole, PairFinding};
 use luks_kdf::Hash;
+use luks_report::dump::role_text;
 use std::alloc::{AllocError, Global};
 
 /// Adds which program printed the line, and by which policy.
@@ -43,17 +44,7 @@ pub(crate) fn push_place(
     fields.push_number(alloc, "offset", offset)
 }
 
-// Which of the two headers of LUKS2 it is.
-fn role_text(role: HeaderRole) -> &'static str
-    ensures { result.now ≡ role_text role }
-{
-    match role {
-        HeaderRole::Primary => "primary",
-        HeaderRole::Secondary => "secondary",
-    }
-}
-
-// Which of them is listed.
+// Which of the two headers of LUKS2 is listed.
 fn listed_header(role: Option<HeaderRole>) -> Option<&'static str>
     ensures { option_map (λ t. t.now) result ≡ option_map role_text role }
 {

@@ -1,10 +1,10 @@
 //! Texts and bytes of a header, as it has them.
 
-ghost use Rattle.std.specs.Prelude.{◌≡◌, ◌++◌, IfOk, OnOk, option_map, string_bytes};
+ghost use Rattle.std.specs.Prelude.{◌≡◌, IfOk, option_map};
 ghost use Rattle.luks_audit.specs.Text.{text_bytes, text_value};
-ghost use Rattle.luks_report.specs.DumpLine.{escaped, escaped_byte};
 
 use crate::tree::Tree;
+use luks_report::escaping::escape;
 use std::alloc::{AllocError, Global};
 use std::marker::Model;
 
@@ -109,45 +109,9 @@ impl Text {
         ensures { IfOk result (λ tree. tree ≡ text_value self.now) }
     {
         match self {
-            Text::Fixed(bytes) => Ok(Tree::text(escaped(alloc, bytes.bytes.as_slice())?)),
+            Text::Fixed(bytes) => Ok(Tree::text(escape(alloc, bytes.bytes.as_slice())?)),
             Text::Unicode(utf8) => Tree::copied(alloc, utf8.text.as_str()),
             Text::Binary(bytes) => Ok(Tree::text(hex::encode(alloc, bytes.bytes.as_slice())?)),
         }
-    }
-}
-
-// A text of a binary header: all bytes but visible ASCII and spaces as `\xHH`, the backslash too.
-fn escaped(alloc: Global, text: &[u8]) -> Result<String, AllocError>
-    ensures { IfOk result (λ printed. string_bytes printed ≡ escaped text.now) }
-{
-    let mut printed = String::new(alloc);
-    escape(alloc, &mut printed, text)?;
-    Ok(printed)
-}
-
-// Adds such a text.
-#[tactic(auto, unfolding(luks_report::specs::DumpLine::escaped))]
-fn escape(alloc: Global, printed: &mut String, text: &[u8]) -> Result<(), AllocError>
-    ensures { OnOk result
-        (string_bytes printed.new ≡ string_bytes printed.old ++ escaped text.now) }
-{
-    for byte in text {
-        escape_byte(alloc, printed, *byte)?;
-    }
-    Ok(())
-}
-
-// Adds one byte.
-#[tactic(auto, unfolding(luks_report::specs::DumpLine::escaped_byte))]
-fn escape_byte(alloc: Global, printed: &mut String, byte: u8) -> Result<(), AllocError>
-    ensures { OnOk result
-        (string_bytes printed.new ≡ string_bytes printed.old ++ escaped_byte byte) }
-{
-    if b' ' <= byte && byte <= b'~' && byte != b'\\' {
-        printed.push(char::from(byte))
-    } else {
-        let digits = hex::encode(alloc, [byte].as_slice())?;
-        printed.push_str("\\x")?;
-        printed.push_str(digits.as_str())
     }
 }

@@ -9,6 +9,8 @@ use std::alloc::{AllocError, Global};
 mod luks1;
 pub(crate) mod luks2;
 
+pub use luks2::role_text;
+
 /// The text that `luksUUID` prints.
 pub fn uuid_text(alloc: Global, header: &Header) -> Result<String, AllocError>
     ensures { IfOk result (λ lines. string_bytes lines ≡ uuid_of header.now) }

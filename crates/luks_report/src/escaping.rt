@@ -8,7 +8,7 @@ use std::alloc::{AllocError, Global};
 
 /// A text of a header as it is printed: all bytes but visible ASCII and spaces are printed as
 /// `\xHH`, and so is the backslash.
-pub(crate) fn escape(alloc: Global, text: &[u8]) -> Result<String, AllocError>
+pub fn escape(alloc: Global, text: &[u8]) -> Result<String, AllocError>
     ensures { IfOk result (λ printed. string_bytes printed ≡ escaped text.now) }
 {
     let mut printed = String::new(alloc);
@@ -18,11 +18,7 @@ pub(crate) fn escape(alloc: Global, text: &[u8]) -> Result<String, AllocError>
 
 /// Adds a text of a header as it is printed.
 #[tactic(auto, unfolding(crate::specs::DumpLine::escaped))]
-pub(crate) fn push_escaped_text(
-    alloc: Global,
-    printed: &mut String,
-    text: &[u8],
-) -> Result<(), AllocError>
+pub fn push_escaped_text(alloc: Global, printed: &mut String, text: &[u8]) -> Result<(), AllocError>
     ensures { OnOk result
         (string_bytes printed.new ≡ string_bytes printed.old ++ escaped text.now) }
 {

@@ -5,7 +5,7 @@
 pub mod check;
 pub mod dump;
 pub mod dump_line;
-mod escaping;
+pub mod escaping;
 mod fault_messages;
 pub mod findings;
 pub mod header_fault;

@@ -58,8 +58,8 @@ fn push_role(alloc: Global, lines: &mut String, header: &Header2) -> Result<(), 
     push_number(alloc, lines, "Header size", header.size as u64)
 }
 
-// Which of the two headers it is.
-fn role_text(role: HeaderRole) -> &'static str
+/// Which of the two headers it is.
+pub fn role_text(role: HeaderRole) -> &'static str
     ensures { result.now ≡ role_text role }
 {
     match role {
