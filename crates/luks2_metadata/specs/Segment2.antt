@@ -123,8 +123,7 @@ segment_of_members segment =
 
 -- the segment, or its first fault
 unfoldable pub segment2_of : Data → Bounds → Result Segment SegmentFault
-segment2_of tree bounds =
-    refused_or (fault2_of tree bounds) (segment_of_members (segment_value tree))
+segment2_of tree bounds = refused_or (fault2_of tree bounds) (segment_of_members (segment_value tree))
 
 -- ---- values that key slots are checked against
 

@@ -134,8 +134,7 @@ key_expansion key = words_after (words_of key) key (4 * (rounds_of key + 1) - wo
 -- the state after n of the equal rounds
 unfoldable pub state_after : List ℕ → List ℕ → ℕ → List ℕ
 state_after block w zero = add_round_key block w 0
-state_after block w (suc n) =
-    add_round_key (mix_columns (shift_rows (sub_bytes (state_after block w n)))) w (suc n)
+state_after block w (suc n) = add_round_key (mix_columns (shift_rows (sub_bytes (state_after block w n)))) w (suc n)
 
 -- Cipher: the last round has no MixColumns
 unfoldable pub cipher : List ℕ → ℕ → List ℕ → List ℕ

@@ -62,8 +62,7 @@ PromptPayload Detached file message consumed output = (segment : Segment) → Ha
 
 -- opening a volume was aborted: if memory ran out, it did where it may
 abbrev pub PromptOpening : HeaderLocation → AllowedSlots → List ℕ → Promptness
-PromptOpening location slots image OutOfMemory consumed output =
-    MayRunOut (reader_for location) slots image consumed.input
+PromptOpening location slots image OutOfMemory consumed _ = MayRunOut (reader_for location) slots image consumed.input
 PromptOpening location slots image _ consumed output = Unit {0}
 
 -- opening a volume or `luksCat` was aborted

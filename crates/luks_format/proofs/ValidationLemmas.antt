@@ -3,10 +3,12 @@ use Rattle.std.proofs.lemmas.Grind.{common_steps}
 use Rattle.std.proofs.Common.{◌≡◌, ◌≢◌, ◌∙◌, ℕ, ◌+◌, ◌*◌, ◌≤◌, ap, refl, sym, subst, true, false, Option}
 use Rattle.std.proofs.Common.{Some, None, Ok, arith}
 use Rattle.std.specs.Prelude.{is_none, option_and_then, slice_get}
+use Rattle.std.specs.Option.{option_map_or}
 use Rattle.std.proofs.lemmas.Bool.Decides.{nat_tests}
 use Rattle.std.proofs.lemmas.Bool.{not-false}
 use Rattle.std.proofs.lemmas.Option.{same_Some}
 use Rattle.luks_format.specs.Area.{max_loaded_len}
+use Rattle.luks_cipher.specs.Sector.{is_mode_key_length}
 use Rattle.luks_cipher.specs.declared.mode.Mode.{Mode}
 use Rattle.luks_kdf.specs.declared.hash.Hash.{Hash}
 use Rattle.luks_format.specs.Derivation.{is_derivable, is_in_range}
@@ -26,8 +28,7 @@ use Rattle.luks_format.specs.declared.segment.Segment.{Segment}
 use Rattle.luks_format.specs.declared.slot.Slot.{Slot}
 use Rattle.luks_format.specs.declared.slot.Verdict.TheVariants.{Usable}
 use Rattle.luks_format.specs.declared.slot.VerdictKind.TheVariants.{Usable as KindUsable}
-use Rattle.luks_format.specs.Segment1.{is_key_length1, segment1_of}
-use Rattle.luks_format.specs.Segment1.{segment_faults1}
+use Rattle.luks_format.specs.Segment1.{segment1_of, segment_faults1}
 use Rattle.luks_format.specs.Slot1.{digest_parts1_of, hash1_of, area1_out_of_range, mode1_of}
 use Rattle.luks_format.specs.Slot1.{payload1_start, slot1_at, slot1_of, slot_parts1_of, slot_reasons1, verdict1_at}
 use Rattle.luks_format.specs.Slot1.{verdict1_of, verdict_in}
@@ -41,7 +42,7 @@ use Rattle.luks_format.specs.declared.header.StoredSlot.{StoredSlot}
 pub record IsReadable (header : Header1) : Type 0 where
   pub mode : (mode : Mode) × (mode1_of header ≡ Some mode)
   pub hash : (hash : Hash) × (hash1_of header ≡ Some hash)
-  pub key : is_key_length1 (mode1_of header) header.key_bytes ≡ true
+  pub key : option_map_or (λ mode. is_mode_key_length mode header.key_bytes) (mode1_of header) false ≡ true
 
 -- the segment of a header, by its fields
 pub record IsSegment1 (header : Header1) (segment : Segment) : Type 0 where

@@ -3,7 +3,6 @@ use Rattle.std.specs.Prelude.{◌*◌, ◌&&◌, ℕ, not, nat_lt, Bool, false, 
 use Rattle.std.specs.Prelude.{[], ◌∷◌, Option, Some, None, Result, is_none}
 use Rattle.std.specs.Option.{option_map_or}
 use Rattle.luks_cipher.specs.Sector.{is_mode_key_length}
-use Rattle.luks_cipher.specs.declared.mode.Mode.{Mode}
 use Rattle.luks_format.specs.Segment.{refused_or, segment_from}
 use Rattle.luks_format.specs.Table.{first_match}
 use Rattle.luks_format.specs.declared.refusal.SegmentFault.{SegmentFault}
@@ -14,17 +13,13 @@ use Rattle.luks_format.specs.Header1.{header1_len}
 use Rattle.luks_format.specs.Slot1.{hash1_of, mode1_of}
 use Rattle.luks_format.specs.declared.header.Header1.{Header1}
 
--- the mode is known, and the length of the volume key is one of this mode
-abbrev pub is_key_length1 : Option Mode → ℕ → Bool
-is_key_length1 known n = option_map_or (λ mode. is_mode_key_length mode n) known false
-
 -- the possible faults of the segment. The last is that it starts inside an attached header. (It starts at a multiple of
 -- 512 bytes.)
 unfoldable pub segment_faults1 : Header1 → List (Bool × SegmentFault)
 segment_faults1 header =
     (is_none (mode1_of header), Encryption)
     ∷ (is_none (hash1_of header), Hash)
-    ∷ (not (is_key_length1 (mode1_of header) header.key_bytes), KeyBytes)
+    ∷ (not (option_map_or (λ mode. is_mode_key_length mode header.key_bytes) (mode1_of header) false), KeyBytes)
     ∷ (not header.detached && nat_lt (512 * header.payload_offset) header1_len, Offset)
     ∷ []
 

@@ -5,6 +5,7 @@ use Rattle.std.proofs.Common.{Ok, Err, ◌<◌, inl, inr, min}
 use Rattle.std.proofs.Common.{arith}
 use Rattle.std.proofs.lemmas.Option.{same_Some}
 use Rattle.std.specs.Prelude.{nat_lt, if◌then◌else◌, IsTrue, ◌↔◌, ok_or, option_map}
+use Rattle.std.specs.Option.{option_map_or}
 use Rattle.luks_cipher.specs.Sector.{is_mode_key_length}
 use Rattle.luks_cipher.specs.declared.mode.Mode.{Mode}
 use Rattle.luks_kdf.specs.declared.hash.Hash.{Hash}
@@ -19,7 +20,6 @@ use Rattle.luks_format.proofs.ValidationLemmas.{IsReadable-ok, slot_usable_at}
 use Rattle.luks_format.specs.Fields.{at}
 use Rattle.luks_format.specs.declared.fault.HeaderFault.TheVariants.{Cut, Json, Memory}
 use Rattle.luks_format.specs.Header1.{header1_len, header1_of, is_luks1}
-use Rattle.luks_format.specs.Segment1.{is_key_length1}
 use Rattle.luks_format.specs.Slot1.{payload1_start}
 use Rattle.luks2_binary.specs.Choice2.{chosen2_of}
 use Rattle.luks2_binary.specs.Text2.{json_text_of}
@@ -50,10 +50,11 @@ pub record IsKnown (segment : Segment) (limits : Limits) (slot : Slot) : Type 0 
   pub area : (mode : Mode) × (slot.parts.area_mode ≡ Some mode)
       × (is_mode_key_length mode slot.parts.area_key_bytes ≡ true)
 
-key_length : (read : Option Mode) (mode : Mode) (n m : ℕ) → read ≡ Some mode → is_key_length1 read n ≡ true → m ≡ n
-    → is_mode_key_length mode m ≡ true
+key_length : (read : Option Mode) (mode : Mode) (n m : ℕ) → read ≡ Some mode
+    → option_map_or (λ mode. is_mode_key_length mode n) read false ≡ true → m ≡ n → is_mode_key_length mode m ≡ true
 key_length read mode n m is known same =
-    subst (λ k. is_mode_key_length mode k ≡ true) (sym same) (subst (λ r. is_key_length1 r n ≡ true) is known)
+    subst (λ k. is_mode_key_length mode k ≡ true) (sym same) (subst
+    (λ r. option_map_or (λ mode. is_mode_key_length mode n) r false ≡ true) is known)
 
 ends_before : (start : Option ℕ) (offset end : ℕ) → start ≡ Some offset → exceeds start end ≡ false → end ≤ offset
 ends_before start offset end is within =

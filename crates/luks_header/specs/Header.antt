@@ -37,9 +37,8 @@ with_text image None = Err NotLuks
 
 -- the header of an image, or why there is none
 unfoldable pub header_of : List ℕ → Result Header HeaderFault
-header_of image =
-    if is_luks1 image then (if nat_lt (length image) header1_len then Err Cut else Ok
-    (V1 (header1_of (at 0 header1_len image))))
+header_of image = if is_luks1 image
+    then (if nat_lt (length image) header1_len then Err Cut else Ok (V1 (header1_of (at 0 header1_len image))))
     else with_text image (chosen2_of image)
 
 -- the number of bytes of the image that are read to learn which header it has

@@ -81,18 +81,18 @@ CanBeTried (Err V.KeyAreaCut) = Unit {0}
 CanBeTried (Err (V.Slots (NoOpening _))) = Unit {0}
 CanBeTried _ = ⊥
 
+-- opening ends with this fault, after this many bytes of the image and of the passphrase
+abbrev pub failed_opening : VolumeFault → ℕ → ℕ → VolumeOpening
+failed_opening fault image secret = record { result = Err fault; consumed = image; secret_consumed = secret }
+
 -- a volume was found: the passphrase is read whole, then the image up to the end of the last key material, and the key
 -- slots are tried
 unfoldable pub opening_found : Volume → List ℕ → List ℕ → VolumeOpening
 opening_found volume image secret =
-    if nat_lt max_key_file_len (length secret) then record {
-      result = Err (V.Passphrase TooLong);
-      consumed = header_read_len image;
-      secret_consumed = max_key_file_len + 1;
-    }
+    if nat_lt max_key_file_len (length secret)
+    then failed_opening (V.Passphrase TooLong) (header_read_len image) (max_key_file_len + 1)
     else if nat_lt (length image) (key_material_end volume.order.entries)
-    then record { result = Err V.KeyAreaCut; consumed = length image; secret_consumed = length secret }
-    else record {
+    then failed_opening V.KeyAreaCut (length image) (length secret) else record {
       result = result_map_both (λ opened. (volume.segment, opened)) V.Slots (opening_of volume.order image secret);
       consumed = unlock_read_len image volume;
       secret_consumed = length secret;
@@ -101,8 +101,7 @@ opening_found volume image secret =
 -- the same, whether or not a volume was found
 abbrev pub opening_after : List ℕ → List ℕ → Result Volume VolumeFault → VolumeOpening
 opening_after image secret (Ok volume) = opening_found volume image secret
-opening_after image secret (Err fault) =
-    record { result = Err fault; consumed = header_read_len image; secret_consumed = 0 }
+opening_after image secret (Err fault) = failed_opening fault (header_read_len image) 0
 
 -- how opening the volume of an image ends, under a passphrase, if its header is read in this way
 unfoldable pub volume_opening_by : HeaderReader → AllowedSlots → List ℕ → List ℕ → VolumeOpening
