@@ -236,10 +236,12 @@ def serving(at):
 
 def rescuing(at):
     """MB/s, by the clock, of a whole volume into memory by luksrd-rescue on this many cores, and by others, which use one.
-    Starting is part of it. (On a disk luksrd-rescue waits until what it wrote is there, and the others do not.)"""
+    Starting is part of it, from compiled modules, as packages have them. (On a disk luksrd-rescue waits until what it
+    wrote is there, and the others do not.)"""
     image, out = volume(at.folder, LARGE), pathlib.Path("/dev/shm") / at.folder.name
     atexit.register(out.unlink, missing_ok=True)
-    over = ["env", f"LUKSRD_LIBRARY={V2.library}", f"LUKSRD_AUDIT={AUDIT}"]
+    over = ["env", "-u", "PYTHONDONTWRITEBYTECODE", f"PYTHONPYCACHEPREFIX={at.folder / 'compiled'}",
+            f"LUKSRD_LIBRARY={V2.library}", f"LUKSRD_AUDIT={AUDIT}"]
     others = {"luksCat": V2.name, "qemu-img": "qemu-img"}
     for cores in range(1, os.cpu_count() + 1):
         pinned = ["taskset", "-c", f"0-{cores - 1}", "/usr/bin/python3", TOP / "rescue" / "luksrd-rescue"]
