@@ -1,5 +1,6 @@
 -- How the key of a slot's key material is derived (LUKS2 On-Disk Format Specification 1.1, section 3, the kdf object).
-use Rattle.std.specs.Prelude.{ℕ, ◌^◌, ◌&&◌, Bool, false, List, Option, Some, None, codes, if◌then◌else◌, is_some, length}
+use Rattle.std.specs.Prelude.{ℕ, ◌^◌, ◌&&◌, Bool, false, List, Option, Some, None, codes, if◌then◌else◌, is_some}
+use Rattle.std.specs.Prelude.{length}
 use Rattle.std.specs.Prelude.{nat_lt, option_map, unwrap_or}
 use Rattle.std.specs.Option.{option_map_or}
 use Rattle.luks_argon2.specs.declared.variant.Variant.{Variant}

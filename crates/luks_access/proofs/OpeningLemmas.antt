@@ -34,7 +34,8 @@ use Rattle.luks_payload.specs.declared.fault.PayloadFault.{PayloadFault}
 use Rattle.luks_payload.specs.declared.fault.PayloadFault.TheVariants.{CutBeforePayload as VolumeCutBeforePayload}
 use Rattle.luks_payload.specs.declared.state.Step.{Step}
 use Rattle.luks_payload.specs.declared.state.Step.TheVariants.{End}
-use Rattle.luks_access.specs.Opens.{CatsByKey, EndsOpening, HasPlaintext, Opens, OpensVolume, Refuses, RefusesVolume, cat_outcome_of}
+use Rattle.luks_access.specs.Opens.{CatsByKey, EndsOpening, HasPlaintext, Opens, OpensVolume, Refuses, RefusesVolume}
+use Rattle.luks_access.specs.Opens.{cat_outcome_of}
 use Rattle.luks_access.specs.Opens.{allowed_by, opening_with, payload_image_of}
 use Rattle.luks_access.specs.declared.options.Options.{Options}
 

@@ -1,6 +1,6 @@
 //! Argon2i and Argon2id, version 0x13 (RFC 9106), without a secret value and associated data. One
-//! thread fills the lanes, one after the other. Below them is BLAKE2b without a key (RFC 7693), and
-//! H', the hash function of variable length that Argon2 makes of it (RFC 9106, section 3.3).
+//! thread fills the lanes, one after the other. Argon2 is built on BLAKE2b without a key (RFC 7693)
+//! and on H', the hash function of variable length that it makes of that (RFC 9106, section 3.3).
 //!
 //! Only [`Memory::new`] allocates memory.
 #![tactic(auto)]

@@ -1,5 +1,6 @@
 -- The length of the key that is a cipher's own, and when it is short.
-use Rattle.std.specs.Prelude.{ℕ, ◌-◌, ◌/◌, ◌==◌, Bool, false, List, Option, Some, None, codes, if◌then◌else◌, nat_lt, option_map}
+use Rattle.std.specs.Prelude.{ℕ, ◌-◌, ◌/◌, ◌==◌, Bool, false, List, Option, Some, None, codes, if◌then◌else◌, nat_lt}
+use Rattle.std.specs.Prelude.{option_map}
 use Rattle.luks_audit.specs.Cipher.{begins_with}
 use Rattle.luks_audit.specs.Text.{text_bytes}
 use Rattle.luks_audit.specs.Token.{is_named}

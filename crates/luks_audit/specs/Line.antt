@@ -19,6 +19,7 @@ columns =
     ++ codes "checksum_hash\tsalt\tiv_tweak\tprogram_version\tpolicy\tunsupported\tsegment_type\tsegment_flags\t"
     ++ codes "integrity\tflags"
 
+-- the same names, one by one
 abbrev pub column_names : List (List ℕ)
 column_names = slice_split (λ (byte : ℕ). byte == 9) columns
 

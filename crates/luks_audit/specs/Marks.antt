@@ -1,6 +1,7 @@
 -- Characters that a terminal obeys, or that change the order in which text is shown: they are printed as `\u` and four
 -- hexadecimal digits, which JSON reads as the same character (RFC 8259, section 7). A line is UTF-8.
-use Rattle.std.specs.Prelude.{ℕ, ◌+◌, ◌-◌, ◌&&◌, ◌||◌, ◌==◌, ◌++◌, Bool, false, List, [], ◌∷◌, Option, Some, None, codes}
+use Rattle.std.specs.Prelude.{ℕ, ◌+◌, ◌-◌, ◌&&◌, ◌||◌, ◌==◌, ◌++◌, Bool, false, List, [], ◌∷◌, Option, Some, None}
+use Rattle.std.specs.Prelude.{codes}
 use Rattle.std.specs.Prelude.{if◌then◌else◌, length, nat_le, nat_lt, slice_get, unwrap_or}
 use Rattle.std.specs.List.{list_any}
 use Rattle.hex.specs.Hex.{encode_lower}

@@ -39,7 +39,7 @@ pub(crate) fn names_requirements(tree: &Value) -> bool
     }
 }
 
-/// Whether segment 0 is there; if its type is `crypt`, it has the members of that type.
+/// Whether segment 0 is there, names its type, and has the members of `crypt` if that is its type.
 #[tactic(auto, unfolding(crate::specs::Shape::has_segment))]
 pub(crate) fn has_segment(tree: &Value) -> bool
     ensures { result ≡ has_segment (data_of tree.now) }

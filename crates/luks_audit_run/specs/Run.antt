@@ -1,5 +1,6 @@
 -- What a run writes, and how it ends.
-use Rattle.std.specs.Prelude.{◌≡◌, ℕ, ◌++◌, Bool, true, false, List, [], ◌∷◌, IfOk, Option, Result, Err, codes, flat_map, is_err, map, take}
+use Rattle.std.specs.Prelude.{◌≡◌, ℕ, ◌++◌, Bool, true, false, List, [], ◌∷◌, IfOk, Option, Result, Err, codes}
+use Rattle.std.specs.Prelude.{flat_map, is_err, map, take}
 use Rattle.luks_format.specs.Area.{is_read_fault}
 use Rattle.luks_format.specs.declared.fault.HeaderFault.{HeaderFault}
 use Rattle.luks_format.specs.declared.fault.HeaderFault.TheVariants.{Read, Memory}

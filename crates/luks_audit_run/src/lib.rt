@@ -1,7 +1,7 @@
 //! The runs of `luksrd-audit`, over images that a host opens and a sink.
 //!
-//! A [`Search`](search::Search) tells where headers are in an image: at every multiple of 512
-//! bytes, in one pass. It holds 32 MiB of the image, and reads each header from there.
+//! A [`Search`](search::Search) finds the headers that begin at a multiple of 512 bytes of an image,
+//! in one pass. It holds 32 MiB of the image, and reads each header from there.
 #![tactic(auto)]
 
 mod buffer;

@@ -15,7 +15,7 @@ use Rattle.luks_runs.proofs.RunLemmas.{aborted_at, runs_printed}
 use Rattle.luks_commands.proofs.VolumeRuns.{prompt_memory, same_segment_by, unlocking}
 use Rattle.luks_open.proofs.VolumeLemmas.{consumed_same}
 use Rattle.luks_runs.specs.Run.{Consumed, Outcome, Prints, Aborted, AnyPromptness, Completed}
-use Rattle.luks_runs.specs.Run.{DetachedRunMatches, Promptness, RunEffects, RunMatches, aborts, is_run_read_failure}
+use Rattle.luks_runs.specs.Run.{OutcomeMatches, Promptness, RunEffects, RunMatches, aborts, is_run_read_failure}
 use Rattle.luks_runs.specs.Run.{is_run_write_failure}
 use Rattle.luks_runs.specs.VolumeOutcome.{payload_outcome, slot_outcome, volume_outcome, volume_outcome_by}
 use Rattle.luks_runs.specs.VolumeOutcome.{CommandOpeningMessage, ConsumesLoaded, OpeningMessage}
@@ -23,7 +23,7 @@ use Rattle.luks_request.specs.Request.{Request, VolumeRequest, is_luks, luks_uui
 use Rattle.luks_request.specs.Request.{test_passphrase, af_split, af_merge}
 use Rattle.luks_commands.specs.Headline.{CatAllows, Change, ConsumedAtLeast, CountsCalls, RunsAsSpecified}
 use Rattle.luks_commands.specs.Headline.{CountsReads}
-use Rattle.luks_commands.specs.Headline.{CountsTried, EndsWithoutKey, PromptCat, PromptOpening}
+use Rattle.luks_commands.specs.Headline.{CountsTried, EndsWithoutKey, PromptCat, AbortedOpening}
 use Rattle.luks_commands.specs.Headline.{ReadsOnce, ReadsPayload}
 use Rattle.luks_commands.specs.Headline.{Trial}
 use Rattle.luks_commands.specs.Unlocking.{EndsLocked, Unlocks}
@@ -47,7 +47,7 @@ use Rattle.luks_io.specs.declared.counts.WriteCounts.{WriteCounts}
 pub runs_at : (is_prompt is_prompt' : Promptness) (out : Outcome) (message : Message) (Effects Effects' : RunEffects)
     → ((consumed : Consumed) (output : ℕ) → is_prompt message consumed output → is_prompt' message consumed output)
     → ((consumed : Consumed) (output : List ℕ) → Effects consumed output → Effects' consumed output)
-    → DetachedRunMatches is_prompt out message Effects → DetachedRunMatches is_prompt' out message Effects'
+    → OutcomeMatches is_prompt out message Effects → OutcomeMatches is_prompt' out message Effects'
 runs_at is_prompt is_prompt' out message Effects Effects' follows implied = either (aborts message)
   where
     either : (b : Bool) → MatchBool b (Aborted is_prompt out message Effects) (Completed out message Effects)
@@ -81,13 +81,14 @@ module _ (location : HeaderLocation) (slots : AllowedSlots) (image pass : List �
     (u : Unlocks (unlocking location slots image pass i s) segment opened loaded) where
   -- the line about the key slot was written, whole or in part, or memory for it ran out
   pub runs_slot : (w w' : Option (List ℕ)) (message : Message) → Prints (opened_line opened.slot) Done w w' message
-      → RunMatches (PromptOpening location slots image)
+      → RunMatches (AbortedOpening location slots image)
       (volume_outcome_by (reader_for location) (slot_outcome pass) slots image pass) message
       (ConsumedExactly image i) (ConsumedExactly pass s) (Appended w w')
   runs_slot w w' message printed = rw (u.outcome (slot_outcome pass))
-      (runs_at AnyPromptness (PromptOpening location slots image) _ message _ _
+      (runs_at AnyPromptness (AbortedOpening location slots image) _ message _ _
       (λ consumed n any. prompt_memory location slots image message consumed n (λ is. inr (inr u.there)))
-      (λ consumed output done. done) (runs_printed (slot_outcome pass segment opened (length loaded)) (ConsumedExactly image i)
+      (λ consumed output done. done) (runs_printed (slot_outcome pass segment opened (length loaded))
+          (ConsumedExactly image i)
       (ConsumedExactly pass s) w w' message u.input_consumed refl u.secret_consumed printed))
 
 -- writing the line about the key slot ends with one of these messages, and reads nothing
@@ -207,7 +208,8 @@ payload_consumes_loaded Attached image pass =
 payload_consumes_loaded Detached image pass =
     record { loaded = λ segment opened loaded. omega arith; whole = λ segment opened loaded. refl }
 
--- a run of `luksCat` that opened no volume: it consumed nothing of an image that has the payload alone, and wrote nothing
+-- a run of `luksCat` that opened no volume: it consumed nothing of an image that has the payload alone, and wrote
+-- nothing
 pub cat_locked : (location : HeaderLocation) (o : VolumeRequest) (message : Message)
     (input secret : Change (Option (List ℕ))) (payload output : Option (List ℕ))
     → IfKnown input.before (λ known. IfKnown secret.before (λ pass.
@@ -237,7 +239,7 @@ module _ (slots : AllowedSlots) (file image pass : List ℕ) (segment : Segment)
   -- the payload was forwarded, to its end or not
   pub detached_runs_forwarded : (message : Message) → PayloadMessage message
       → ForwardsPayload segment (segment.mode, opened.key) image 0 i' w w' message
-      → DetachedRunMatches (PromptCat Detached slots file)
+      → OutcomeMatches (PromptCat Detached slots file)
       (volume_outcome_by detached_header_of (payload_outcome Detached image pass) slots file pass) message
       (λ consumed output. ConsumedExactly file h consumed.input × ConsumedExactly image i' consumed.payload
       × ConsumedExactly pass s consumed.secret × Appended w w' output)

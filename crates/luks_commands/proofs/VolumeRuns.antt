@@ -46,7 +46,7 @@ use Rattle.luks_open.specs.declared.found.FoundVolume.{FoundVolume}
 use Rattle.luks_open.specs.declared.location.HeaderLocation.{HeaderLocation}
 use Rattle.luks_open.specs.declared.location.HeaderLocation.TheVariants.{Attached, Detached}
 use Rattle.luks_open.specs.declared.unlocked.UnlockedVolume.{UnlockedVolume}
-use Rattle.luks_commands.specs.Headline.{CountsTried, EndsUntried, PromptCat, PromptForwarding, PromptOpening}
+use Rattle.luks_commands.specs.Headline.{CountsTried, EndsUntried, PromptCat, PromptForwarding, AbortedOpening}
 use Rattle.luks_commands.specs.Headline.{PromptPayload, Trial}
 use Rattle.luks_commands.specs.Unlocking.{EndsLocked, Unlocking, Unlocks}
 
@@ -120,7 +120,7 @@ prompt_opening Detached slots image pass message a b few =
 pub prompt_memory : (location : HeaderLocation) (slots : AllowedSlots) (image : List ℕ) (message : Message)
     (consumed : Consumed) (n : ℕ)
     → (message ≡ OutOfMemory → MayRunOut (reader_for location) slots image consumed.input)
-    → PromptOpening location slots image message consumed n
+    → AbortedOpening location slots image message consumed n
 prompt_memory location slots image OutOfMemory consumed n ran_out = ran_out refl
 prompt_memory location slots image _ consumed n ran_out = tt
 

@@ -16,7 +16,7 @@ use Rattle.luks_open.specs.declared.location.HeaderLocation.{HeaderLocation}
 use Rattle.luks_open.specs.declared.location.HeaderLocation.TheVariants.{Attached, Detached}
 use Rattle.luks_runs.specs.Payload.{max_payload_end}
 use Rattle.luks_runs.specs.Run.{Promptness, AnyPromptness, is_run_read_failure}
-use Rattle.luks_runs.specs.Run.{is_run_write_failure, DetachedRunMatches, RunMatches, aborts, ConsumedNothing, Outcome}
+use Rattle.luks_runs.specs.Run.{is_run_write_failure, OutcomeMatches, RunMatches, aborts, ConsumedNothing, Outcome}
 use Rattle.luks_runs.specs.Stripe.{max_key_len, PromptSplit, merge_outcome, split_outcome}
 use Rattle.luks_open.specs.Volume.{HasSegmentBy, MayRunOut, volume_by}
 use Rattle.luks_runs.specs.VolumeOutcome.{slot_outcome, OnOpened}
@@ -60,14 +60,14 @@ PromptPayload Attached image message consumed output = (segment : Segment) → H
 PromptPayload Detached file message consumed output = (segment : Segment) → HasSegmentBy detached_header_of file segment
     → PromptForwarding segment 0 message consumed.payload output
 
--- opening a volume was aborted: if memory ran out, it did where it may
-abbrev pub PromptOpening : HeaderLocation → AllowedSlots → List ℕ → Promptness
-PromptOpening location slots image OutOfMemory consumed _ = MayRunOut (reader_for location) slots image consumed.input
-PromptOpening location slots image _ consumed output = Unit {0}
+-- opening a volume was aborted: if memory ran out, then after so many bytes of the image that it may
+abbrev pub AbortedOpening : HeaderLocation → AllowedSlots → List ℕ → Promptness
+AbortedOpening location slots image OutOfMemory consumed _ = MayRunOut (reader_for location) slots image consumed.input
+AbortedOpening location slots image _ consumed output = Unit {0}
 
 -- opening a volume or `luksCat` was aborted
 abbrev pub PromptCat : HeaderLocation → AllowedSlots → List ℕ → Promptness
-PromptCat location slots image message consumed output = PromptOpening location slots image message consumed output
+PromptCat location slots image message consumed output = AbortedOpening location slots image message consumed output
     × PromptPayload location image message consumed output
 
 -- what a device has before and after a run
@@ -91,17 +91,17 @@ RunsOverInput outcome message bytes = IfKnown bytes.input.before (λ input.
     RunMatches AnyPromptness (outcome input) message (ConsumedExactly input bytes.input.after) ConsumedNothing
     (Appended bytes.output.before bytes.output.after))
 
--- the same for the first input and the second one. If the run was aborted, it was as prompt as is said for the first
+-- the same for the first input and the second one. How promptly an aborted run ends is said for each first input
 abbrev pub RunsOverInputs : (List ℕ → Promptness) → (List ℕ → List ℕ → Outcome) → Message
     → Devices (Option (List ℕ)) (Option (List ℕ)) → Type 0
 RunsOverInputs pace outcome message bytes = IfKnown bytes.input.before (λ input. IfKnown bytes.secret.before (λ secret.
     RunMatches (pace input) (outcome input secret) message (ConsumedExactly input bytes.input.after)
     (ConsumedExactly secret bytes.secret.after) (Appended bytes.output.before bytes.output.after)))
 
--- the run of a command, if its header is at this location: if its inputs know their bytes, it has the outcome for these,
--- or was aborted on the way to it. The image of `luksCat` has to be shorter than 2^64 bytes, which it counts in 64 bits.
--- With an attached header, that image is the first input, and nothing is consumed of another one; with a detached
--- header, the file with the header is the first input, and the payload is in an image of its own
+-- the run of a command, if its header is at this location: if its inputs know their bytes, it has the outcome for
+-- these, or was aborted on the way to it. The image of `luksCat` has to be shorter than 2^64 bytes, which it counts in
+-- 64 bits. With an attached header, that image is the first input, and nothing is consumed of another one; with a
+-- detached header, the file with the header is the first input, and the payload is in an image of its own
 abbrev pub RunsAsSpecified : Request → HeaderLocation → Message → Devices (Option (List ℕ)) (Option (List ℕ)) → Type 0
 RunsAsSpecified (is_luks _) location message bytes = RunsOverInput is_luks_outcome message bytes
 RunsAsSpecified (luks_uuid _) location message bytes =
@@ -111,18 +111,18 @@ RunsAsSpecified (luks_dump _) location message bytes =
 RunsAsSpecified (luks_check _) location message bytes =
     RunsOverInput (print_outcome_by (reader_for location) Check) message bytes
 RunsAsSpecified (test_passphrase o) location message bytes =
-    RunsOverInputs (PromptOpening location (pbkdf2_alone o.slots)) (λ input secret. volume_outcome_by (reader_for location)
-    (slot_outcome secret) (pbkdf2_alone o.slots) input secret) message bytes
+    RunsOverInputs (AbortedOpening location (pbkdf2_alone o.slots)) (λ input secret. volume_outcome_by
+    (reader_for location) (slot_outcome secret) (pbkdf2_alone o.slots) input secret) message bytes
 RunsAsSpecified (luks_cat o) Attached message bytes =
     IfKnown bytes.input.before (λ image. IfKnown bytes.secret.before (λ secret. length image < 2 ^ 64
-    → DetachedRunMatches (PromptCat Attached (pbkdf2_alone o.slots) image)
+    → OutcomeMatches (PromptCat Attached (pbkdf2_alone o.slots) image)
     (volume_outcome_by header_of (payload_outcome Attached image secret) (pbkdf2_alone o.slots) image secret) message
     (λ consumed output. ConsumedExactly image bytes.input.after consumed.input × (consumed.payload ≡ 0)
     × ConsumedExactly secret bytes.secret.after consumed.secret
     × Appended bytes.output.before bytes.output.after output)))
 RunsAsSpecified (luks_cat o) Detached message bytes = IfKnown bytes.input.before (λ file.
     IfKnown bytes.payload.before (λ image. IfKnown bytes.secret.before (λ secret. length image < 2 ^ 64
-    → DetachedRunMatches (PromptCat Detached (pbkdf2_alone o.slots) file)
+    → OutcomeMatches (PromptCat Detached (pbkdf2_alone o.slots) file)
     (volume_outcome_by detached_header_of (payload_outcome Detached image secret) (pbkdf2_alone o.slots) file secret)
     message (λ consumed output. ConsumedExactly file bytes.input.after consumed.input
     × ConsumedExactly image bytes.payload.after consumed.payload

@@ -64,8 +64,9 @@ mod volumes;
 ///
 /// If memory runs out in `testPassphrase` or `luksCat` over a LUKS1 image, no byte of it was
 /// consumed, or some key slot can be tried. So once a byte was consumed, "out of memory" does not
-/// hide that a named key slot is not there. With LUKS2 it may: the tree of the JSON text is made
-/// after the header's last byte was consumed. (Both inputs must know their bytes for that.)
+/// hide that a named key slot is not there. With LUKS2 it may, during the search for the header and
+/// after the header's last byte, when the tree of the JSON text is made. (Both inputs must know
+/// their bytes for that, and the image of `luksCat` must be shorter than 2^64 bytes.)
 pub fn execute<I: Source, K: Source, O: Sink>(
     alloc: Global,
     command: &Command<'_>,

@@ -1,6 +1,7 @@
 -- An area that loads further bytes: zeros are appended to its bytes, and a source overwrites the first of these zeros.
 use Rattle.std.proofs.lemmas.Grind.{common_steps}
-use Rattle.std.proofs.Common.{◌≡◌, ℕ, ◌+◌, ◌-◌, ◌<◌, ◌≤◌, List, [], ◌++◌, Option, Some, ◌∙◌, ap, take, drop, length, min}
+use Rattle.std.proofs.Common.{◌≡◌, ℕ, ◌+◌, ◌-◌, ◌<◌, ◌≤◌, List, [], ◌++◌, Option, Some, ◌∙◌, ap, take, drop, length}
+use Rattle.std.proofs.Common.{min}
 use Rattle.std.proofs.Common.{append_assoc, arith, length-append, length-drop}
 use Rattle.std.proofs.lemmas.List.{drop_all, take-append-drop, take-append-le, take-take, take_rest, length-replicate}
 use Rattle.std.proofs.Math.ListN.{replicate}

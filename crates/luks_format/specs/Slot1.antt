@@ -82,7 +82,7 @@ slot_parts1_of header slot = record {
 unfoldable pub slot1_of : Header1 → StoredSlot → Option Slot
 slot1_of header slot = slot_from (slot_parts1_of header slot) (digest_from (digest_parts1_of header))
 
--- the verdict on a slot of this state, if this is the one on an enabled slot
+-- the verdict on a slot in this state; `verdict` is what it is if the slot is enabled
 abbrev pub verdict_in : SlotState → Verdict → Verdict
 verdict_in Enabled verdict = verdict
 verdict_in Disabled verdict = VerdictDisabled

@@ -80,7 +80,8 @@ order-unless_none (entry ∷ entries) skipped order is =
     ≡ order = cc in ap (λ (t : OrderModel). t.entries) same
 
 -- all entries of an order are ones of the header
-pub All-order : (header : Header) (named : Option ℕ) (limits : Limits) (order : OrderModel) → order_within header named limits ≡ Ok order
+pub All-order : (header : Header) (named : Option ℕ) (limits : Limits) (order : OrderModel)
+    → order_within header named limits ≡ Ok order
     → AllByRecursion (IsOf header limits) order.entries
 unfolding order_within
 All-order header None limits order is =
@@ -228,12 +229,14 @@ module _ (header : Header) (named : Option ℕ) (limits : Limits) (order : Order
     pub All-volume_key : All (λ (entry : Entry). is_mode_key_length segment.mode entry.slot.parts.key_bytes ≡ true)
         order.entries
     All-volume_key = λ k d below.
-        let known : IsKnown segment limits (slice_index_or order.entries k d).slot = each_known k d below in known.volume_key
+        let known : IsKnown segment limits
+            (slice_index_or order.entries k d).slot = each_known k d below in known.volume_key
 
 -- ---- for callers
 
 -- with an attached header, the key material of all key slots to be tried ends at or before the payload's start
-pub key_areas_before_payload : (header : Header) (segment : Segment) (named : Option ℕ) (limits : Limits) (order : OrderModel)
+pub key_areas_before_payload : (header : Header) (segment : Segment) (named : Option ℕ) (limits : Limits)
+    (order : OrderModel)
     → is_detached header ≡ false → segment_of header ≡ Ok segment
     → order_within header named limits ≡ Ok order → key_material_end order.entries ≤ segment.offset
 key_areas_before_payload header segment named limits order attached is_segment is_order =

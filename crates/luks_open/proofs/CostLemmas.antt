@@ -7,7 +7,8 @@ use Rattle.luks_open.specs.Costs.{AddsCosts, Costs, CountsCosts, KeepsCosts}
 use Rattle.luks_open.specs.Fault.{aborts_opening}
 use Rattle.luks_open.specs.Opening.{OrderModel, StopsAfter, blocks_of, evaluations_of, first_opening, key_material_end}
 use Rattle.luks_open.specs.Opening.{opening_of, tried_of, work_of}
-use Rattle.luks_open.specs.Volume.{CountsBlocks, CountsRefused, CountsTrials, IfRefused, TriesSlots, UnlessRefused, Volume}
+use Rattle.luks_open.specs.Volume.{CountsBlocks, CountsRefused, CountsTrials, IfRefused, TriesSlots, UnlessRefused}
+use Rattle.luks_open.specs.Volume.{Volume}
 use Rattle.luks_open.specs.declared.entry.Entry.{Entry}
 use Rattle.luks_open.specs.declared.fault.OpenFault.{OpenFault}
 use Rattle.luks_open.specs.declared.fault.OpenFault.TheVariants.{NoKey}

@@ -1,5 +1,6 @@
 -- The bytes of an image after the key material of the key slots to be tried change nothing.
-use Rattle.std.proofs.Common.{◌≡◌, ◌∙◌, ℕ, zero, suc, ◌+◌, ◌*◌, ◌/◌, ◌<◌, ◌≤◌, List, [], ◌∷◌, Option, Some, refl, sym, ap}
+use Rattle.std.proofs.Common.{◌≡◌, ◌∙◌, ℕ, zero, suc, ◌+◌, ◌*◌, ◌/◌, ◌<◌, ◌≤◌, List, [], ◌∷◌, Option, Some, refl, sym}
+use Rattle.std.proofs.Common.{ap}
 use Rattle.std.proofs.Common.{arith, take}
 use Rattle.std.specs.Prelude.{if◌then◌else◌, is_some, ok_or, sum_by}
 use Rattle.std.specs.List.{AllByRecursion}

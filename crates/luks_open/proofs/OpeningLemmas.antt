@@ -35,7 +35,8 @@ use Rattle.luks_open.specs.KeyFile.{NoKeyFileRead, max_key_file_len}
 use Rattle.luks_open.specs.Volume.{FindsNoVolume, volume_by}
 use Rattle.luks_open.specs.Volume.{Volume, VolumeOpening, opening_found}
 use Rattle.luks_open.specs.Volume.{unlock_read_len, volume_opening_by, opening_after}
-use Rattle.luks_open.specs.Volume.{CanBeTried, ConsumedUnless, ConsumesMaterial, CountsTrials, FoundIn, IsLoaded, OpeningMatches}
+use Rattle.luks_open.specs.Volume.{CanBeTried, ConsumedUnless, ConsumesMaterial, CountsTrials, FoundIn, IsLoaded}
+use Rattle.luks_open.specs.Volume.{OpeningMatches}
 use Rattle.luks_open.specs.Volume.{IfRefused, TriesSlots, UnlessRefused, described, opened_of, opened_result}
 use Rattle.luks_open.specs.declared.unlocked.UnlockedVolume.{UnlockedVolume}
 use Rattle.luks_open.specs.declared.fault.PassphraseFault.{PassphraseFault}
@@ -180,7 +181,8 @@ module _ (location : HeaderLocation) (slots : AllowedSlots) (image pass : List �
   opens_unfound fault left finds = record {
     answer = λ never. sym (ap (λ (o : VolumeOpening). o.result) (opening_is (Err fault) (finds.none never)));
     memory = λ is. let same : fault ≡ Slots Memory = cc in tried_if_found (finds.memory same);
-    argon2 = λ slot memory is. absurd (finds.no_argon2 slot memory (let same : fault ≡ Argon2Memory slot memory = cc in same));
+    argon2 = λ slot memory is. absurd (finds.no_argon2 slot memory
+        (let same : fault ≡ Argon2Memory slot memory = cc in same));
     consumed = by (aborts_opening fault)
         (λ never. ap (λ (o : VolumeOpening). o.consumed) (opening_is (Err fault) (finds.none never))) finds.consumed;
   }
@@ -206,7 +208,8 @@ module _ (location : HeaderLocation) (slots : AllowedSlots) (image pass : List �
         × ConsumedUnless (aborts_opening (Passphrase fault)) pass secret' opening.secret_consumed
     opens_unread secret' TooLong stop =
         rw (opening_found_is ∙ found_long (described volume) image pass stop.0) (
-          record { answer = λ never. refl; memory = λ is. tt; argon2 = λ slot memory is. tt; consumed = found.consumed },
+          record { answer = λ never. refl; memory = λ is. tt; argon2 =
+              λ slot memory is. tt; consumed = found.consumed },
           stop.1,
         )
     opens_unread secret' PassphraseMemory stop =

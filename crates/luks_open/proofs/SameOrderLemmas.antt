@@ -1,5 +1,6 @@
 -- If no key slot of a header derives its key by Argon2, limits for Argon2 change nothing.
-use Rattle.std.proofs.Common.{◌≡◌, ◌∙◌, ℕ, zero, suc, ap, refl, arith, Bool, true, false, List, [], ◌∷◌, Option, Some, None}
+use Rattle.std.proofs.Common.{◌≡◌, ◌∙◌, ℕ, zero, suc, ap, refl, arith, Bool, true, false, List, [], ◌∷◌, Option, Some}
+use Rattle.std.proofs.Common.{None}
 use Rattle.std.proofs.Common.{Result, Ok, Err}
 use Rattle.std.specs.Prelude.{IfOk, IfSome, ◌&&◌, codes, if◌then◌else◌, is_none, option_map}
 use Rattle.std.specs.Option.{option_or}

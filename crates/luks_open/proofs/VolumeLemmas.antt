@@ -166,7 +166,8 @@ module _ (location : HeaderLocation) (slots : AllowedSlots) (image : List ℕ) (
         }
 
 -- the header of an image, its segment and its order make its volume
-pub volume_is : (location : HeaderLocation) (slots : AllowedSlots) (image : List ℕ) (header : Header) (segment : Segment)
+pub volume_is : (location : HeaderLocation) (slots : AllowedSlots) (image : List ℕ) (header : Header)
+    (segment : Segment)
     (order : OrderModel) → reader_for location image ≡ Ok header → segment_of header ≡ Ok segment
     → order_within header slots.named slots.limits ≡ Ok order
     → volume_by (reader_for location) slots image ≡ Ok (record { header = header; segment = segment; order = order })

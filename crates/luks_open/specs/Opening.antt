@@ -1,5 +1,6 @@
 -- The key slots to be tried, which of them opens a volume, and how many evaluations of HMAC that costs.
-use Rattle.std.specs.Prelude.{ℕ, ◌+◌, ◌<◌, get_or, take, sum_by, if◌then◌else◌, List, [], ◌∷◌, Option, Some, None, Result, Ok, Err}
+use Rattle.std.specs.Prelude.{ℕ, ◌+◌, ◌<◌, get_or, take, sum_by, if◌then◌else◌, List, [], ◌∷◌, Option, Some, None}
+use Rattle.std.specs.Prelude.{Result, Ok, Err}
 use Rattle.std.specs.Prelude.{length, is_some, ok_or, option_and_then, option_map, ◌≡◌, ◌==◌, ◌⊎◌, max, MatchResult}
 use Rattle.std.specs.Prelude.{◌++◌}
 use Rattle.std.specs.Option.{option_or}

@@ -1,7 +1,8 @@
 -- The texts of luksrd: its usage, its messages as printed on standard error, with the exit status of each, and what a
 -- check prints.
 use Prim.Native.String.{String}
-use Rattle.std.specs.Prelude.{ℕ, List, Option, Some, None, [], ◌∷◌, ◌++◌, ◌==◌, codes, flat_map, if◌then◌else◌, length, Result, Ok, Err}
+use Rattle.std.specs.Prelude.{ℕ, List, Option, Some, None, [], ◌∷◌, ◌++◌, ◌==◌, codes, flat_map, if◌then◌else◌, length}
+use Rattle.std.specs.Prelude.{Result, Ok, Err}
 use Rattle.std.specs.Fmt.{decimal}
 pub use Rattle.luks_report.specs.Findings.{findings_of}
 use Rattle.luks_header.specs.SegmentFault.{fault_text}

@@ -18,7 +18,11 @@ pub fn escape(alloc: Global, text: &[u8]) -> Result<String, AllocError>
 
 /// Adds a text of a header as it is printed.
 #[tactic(auto, unfolding(crate::specs::DumpLine::escaped))]
-pub fn push_escaped_text(alloc: Global, printed: &mut String, text: &[u8]) -> Result<(), AllocError>
+pub(crate) fn push_escaped_text(
+    alloc: Global,
+    printed: &mut String,
+    text: &[u8],
+) -> Result<(), AllocError>
     ensures { OnOk result
         (string_bytes printed.new ≡ string_bytes printed.old ++ escaped text.now) }
 {

@@ -71,24 +71,24 @@ pub record Completed (outcome : Outcome) (message : Message) (Effects : RunEffec
   pub as_specified : message ≡ outcome.message
   pub effects : Effects outcome.consumed outcome.output
 
--- the run has this outcome, or was aborted on the way to it; the payload is in another image than the header
-abbrev pub DetachedRunMatches : Promptness → Outcome → Message → RunEffects → Type 0
-DetachedRunMatches pace outcome message Effects =
+-- the run has this outcome, or was aborted on the way to it
+abbrev pub OutcomeMatches : Promptness → Outcome → Message → RunEffects → Type 0
+OutcomeMatches pace outcome message Effects =
     MatchBool (aborts message) (Aborted pace outcome message Effects) (Completed outcome message Effects)
 
 -- nothing is consumed of an input that a command does not have
 abbrev pub ConsumedNothing : ℕ → Type 0
 ConsumedNothing count = count ≡ 0
 
--- what a run without an image for the payload alone does to its devices, by each of them
+-- the effects of a run that has no image for the payload alone: one fact for each of its devices
 abbrev pub EffectsOf : (ℕ → Type 0) → (ℕ → Type 0) → (List ℕ → Type 0) → RunEffects
 EffectsOf ConsumedInput ConsumedSecret Wrote consumed output = ConsumedInput consumed.input
     × ConsumedNothing consumed.payload × ConsumedSecret consumed.secret × Wrote output
 
--- the same with no image for the payload alone
+-- a run that has no image for the payload alone has this outcome, or was aborted on the way to it
 abbrev pub RunMatches : Promptness → Outcome → Message → (ℕ → Type 0) → (ℕ → Type 0) → (List ℕ → Type 0) → Type 0
 RunMatches pace outcome message ConsumedInput ConsumedSecret Wrote =
-    DetachedRunMatches pace outcome message (EffectsOf ConsumedInput ConsumedSecret Wrote)
+    OutcomeMatches pace outcome message (EffectsOf ConsumedInput ConsumedSecret Wrote)
 
 -- a failed read is reported
 abbrev pub is_run_read_failure : Message → Bool

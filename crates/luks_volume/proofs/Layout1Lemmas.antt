@@ -19,7 +19,8 @@ use Rattle.luks_volume.proofs.SectorLemmas.{IsImage, image_made, pieces_length, 
 use Rattle.luks_volume.proofs.MaterialLemmas.{AreRandomStripes, length-material}
 use Rattle.luks_volume.proofs.MaterialLemmas.{cipher_is_named, hash_is_named, mode_is_named}
 use Rattle.luks_volume.proofs.SlotLemmas.{found_has}
-use Rattle.luks_volume.specs.Layout1.{area1_of, area_key1_of, area_sectors_of, digest1_fields, fields1_of, header1_bytes}
+use Rattle.luks_volume.specs.Layout1.{area1_of, area_key1_of, area_sectors_of, digest1_fields, fields1_of}
+use Rattle.luks_volume.specs.Layout1.{header1_bytes}
 use Rattle.luks_volume.specs.Layout1.{image1_of, key_slot1_of, material1_of, middle1_of, payload1_bytes, slot1_numbered}
 use Rattle.luks_volume.specs.Layout1.{start1_of, state1_of}
 use Rattle.luks_volume.specs.Ranges1.{AreParameters1, FitsSlot1, AreTyped1, IsTypedSlot1, Seal1, Slot1}

@@ -15,7 +15,8 @@ use Rattle.luks_cipher.specs.Xts.{block_encrypted, block_xor, xts_encrypted}
 use Rattle.luks_cipher.specs.declared.mode.Mode.TheVariants.{XtsPlain64, XtsPlain, CbcEssivSha256, CbcPlain64}
 use Rattle.luks_cipher.proofs.ModeLemmas.{blocks_length}
 use Rattle.luks_volume.specs.Sealed.{IsStoredEncrypted}
-use Rattle.luks_volume.proofs.FieldLemmas.{at_at, at_first, at_second, length-at, at_inside, at_padded, at_within_second}
+use Rattle.luks_volume.proofs.FieldLemmas.{at_at, at_first, at_second, length-at, at_inside, at_padded}
+use Rattle.luks_volume.proofs.FieldLemmas.{at_within_second}
 use Rattle.luks_volume.proofs.FieldLemmas.{IsThere, length-padded, padded_begins}
 
 -- one more piece is appended to those that follow the first bytes

@@ -21,7 +21,7 @@ ghost use Rattle.luks_runs.specs.Run.{RunMatches};
 ghost use Rattle.luks_runs.specs.Run.{is_run_read_failure, is_run_write_failure, result_message};
 ghost use Rattle.luks_open.specs.Location.{LoadedFrom, reader_for};
 ghost use Rattle.luks_commands.specs.Headline.{CatAllows, CountsCalls, CountsOpening, CountsReads};
-ghost use Rattle.luks_commands.specs.Headline.{EndsWithoutKey, PromptOpening};
+ghost use Rattle.luks_commands.specs.Headline.{EndsWithoutKey, AbortedOpening};
 ghost use Rattle.luks_commands.specs.Headline.{ReadsOnce, ReadsPayload};
 ghost use Rattle.luks_commands.specs.Headline.{RunsAsSpecified};
 ghost use Rattle.luks_commands.specs.Unlocking.{CountsUnlocking, EndsLocked, Unlocks};
@@ -135,7 +135,7 @@ pub(super) fn test_passphrase<I: Source, K: Source, O: Sink>(
 ) -> Result<(), Message>
     ensures run { IfKnown (I.to_come image.old)
         (λ known. IfKnown (K.to_come secret.old) (λ passphrase.
-        RunMatches (PromptOpening location (pbkdf2_alone slots) known)
+        RunMatches (AbortedOpening location (pbkdf2_alone slots) known)
         (volume_outcome_by (reader_for location) (slot_outcome passphrase)
         (pbkdf2_alone slots) known passphrase) (result_message result)
         (ConsumedExactly known (I.to_come image.new))

@@ -1,4 +1,5 @@
-use Rattle.std.proofs.Common.{◌≡◌, ◌∙◌, ◌*◌, ◌+◌, ◌-◌, arith, ap, drop, length, length-drop, length-take, refl, rules, sym, take}
+use Rattle.std.proofs.Common.{◌≡◌, ◌∙◌, ◌*◌, ◌+◌, ◌-◌, arith, ap, drop, length, length-drop, length-take, refl, rules}
+use Rattle.std.proofs.Common.{sym, take}
 use Rattle.luks_argon2.specs.Blake2b.{blake2b}
 use Rattle.luks_argon2.specs.VariableLength.{half_count, halves, v_at}
 use Rattle.luks_argon2.proofs.VariableLengthLemmas.{halves_more, long_is, v_next}

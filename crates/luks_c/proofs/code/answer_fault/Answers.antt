@@ -15,5 +15,6 @@ of_message c _ never stores = stores
 pub returns-in_default : goal.returns-in_default
 returns-in_default c = record {
   code = rw c.from.ensures at c.answer_message.ensures.code;
-  message = of_message _ c.args.fault c.in_default.not-Argon2Memory (rw c.from.ensures at c.answer_message.ensures.message);
+  message = of_message _ c.args.fault c.in_default.not-Argon2Memory
+      (rw c.from.ensures at c.answer_message.ensures.message);
 }

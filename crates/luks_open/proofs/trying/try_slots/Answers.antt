@@ -187,7 +187,8 @@ returns-then-not-branch-clause-ended g c ended =
     (c.extend_to.ensures.already (c.is_cut.ensures.whole c.if-is_cut.false ended)).2
 
 pub returns-in-Ok-opening-clause-ended : goal.returns-in-Ok-opening-clause-ended
-returns-in-Ok-opening-clause-ended g c ended = (c.extend_to.ensures.already (c.is_cut.ensures.whole c.if-is_cut.false ended)).2
+returns-in-Ok-opening-clause-ended g c ended = (c.extend_to.ensures.already
+    (c.is_cut.ensures.whole c.if-is_cut.false ended)).2
 
 pub returns-in-Err-opening-clause-ended : goal.returns-in-Err-opening-clause-ended
 returns-in-Err-opening-clause-ended g c ended =

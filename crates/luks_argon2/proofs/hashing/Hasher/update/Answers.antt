@@ -1,4 +1,5 @@
-use Rattle.std.proofs.Common.{◌≡◌, ◌∙◌, ap, arith, length, append-nil, append_assoc, length-append, length-take, sym, take, List, ℕ, ◌++◌}
+use Rattle.std.proofs.Common.{◌≡◌, ◌∙◌, ap, arith, length, append-nil, append_assoc, length-append, length-take, sym}
+use Rattle.std.proofs.Common.{take, List, ℕ, ◌++◌}
 use Rattle.std.proofs.lemmas.List.{take_all, take_more}
 use Rattle.luks_argon2.specs.Hashing.{hasher_after}
 use Rattle.luks_argon2.proofs.hashing.Hasher.update.Goals as goal

@@ -4,7 +4,7 @@ use Rattle.luks_runs.specs.VolumeOutcome.{slot_outcome}
 use Rattle.luks_runs.proofs.OutcomeLemmas.{command_says, message_says}
 use Rattle.luks_runs.specs.Run.{result_message}
 use Rattle.luks_open.specs.Allowed.{pbkdf2_alone}
-use Rattle.luks_commands.specs.Headline.{PromptCat, PromptOpening}
+use Rattle.luks_commands.specs.Headline.{PromptCat, AbortedOpening}
 use Rattle.luks_commands.proofs.OpenedRuns.{no_write_unopened, runs_at, runs_slot, slot_message}
 use Rattle.luks_runs.proofs.OutcomeLemmas.{slot_consumes_loaded}
 use Rattle.luks_commands.proofs.execute.volumes.test_passphrase.Goals as goal
@@ -13,7 +13,7 @@ pub returns-in_err-unlocked-clause-run : goal.returns-in_err-unlocked-clause-run
 returns-in_err-unlocked-clause-run g c =
     rw (given_error _ _ c.from_residual.ensures.1) (λ known is pass has.
     runs_at (PromptCat c.args.location (pbkdf2_alone c.args.slots) known)
-    (PromptOpening c.args.location (pbkdf2_alone c.args.slots) known) _ _ _ _
+    (AbortedOpening c.args.location (pbkdf2_alone c.args.slots) known) _ _ _ _
     (λ consumed output is. is.0) (λ consumed output done. done)
     (c.in_err-unlocked.ensures.err known is pass has (slot_outcome pass) (slot_consumes_loaded pass) _))
 

@@ -44,7 +44,8 @@ returns-in_err-volume-clause-work g c =
 
 pub returns-in_err-volume-clause-without_argon2 : goal.returns-in_err-volume-clause-without_argon2
 returns-in_err-volume-clause-without_argon2 g c =
-    rw (given_error _ _ c.from_residual.ensures.1) (c.in_err-volume.ensures.without_argon2 (rw c.pbkdf2_alone.ensures refl))
+    rw (given_error _ _ c.from_residual.ensures.1) (c.in_err-volume.ensures.without_argon2
+        (rw c.pbkdf2_alone.ensures refl))
 
 pub returns-in_err-volume-clause-counts : goal.returns-in_err-volume-clause-counts
 returns-in_err-volume-clause-counts g c =
@@ -75,7 +76,8 @@ returns-in_err-passphrase-clause-unneeded g c known is none =
     (rw c.pbkdf2_alone.ensures at c.in_ok-volume.ensures.found) is none)
 
 pub returns-in_err-passphrase-clause-without_argon2 : goal.returns-in_err-passphrase-clause-without_argon2
-returns-in_err-passphrase-clause-without_argon2 g c = rw (given_error _ _ c.from_residual-in_err-passphrase.ensures.1) tt
+returns-in_err-passphrase-clause-without_argon2 g c = rw
+    (given_error _ _ c.from_residual-in_err-passphrase.ensures.1) tt
 
 pub returns-in_err-passphrase-clause-counts : goal.returns-in_err-passphrase-clause-counts
 returns-in_err-passphrase-clause-counts g c =
