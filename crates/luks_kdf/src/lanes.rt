@@ -1,8 +1,8 @@
 //! PBKDF2 with the blocks of a key side by side, if the hash function has lanes for several.
 
 ghost use Rattle.std.specs.Prelude.{◌≡◌, ℕ, ◌+◌, ◌*◌, ◌^◌, ◌<◌, ◌≤◌, List, length, refl, take};
-ghost use Rattle.luks_sha_lanes.specs.Chains.{chain_xor, digest_at};
 ghost use Rattle.luks_kdf.specs.Bytes.{joined};
+ghost use Rattle.luks_kdf.specs.Chains.{chain_xor, digest_at};
 ghost use Rattle.luks_kdf.specs.Hash.{block_len, hash_of, digest_len};
 ghost use Rattle.luks_kdf.specs.Lanes.{lanes_of};
 ghost use Rattle.luks_kdf.specs.Hmac.{inner_block, outer_block};
@@ -11,7 +11,7 @@ ghost use Rattle.luks_kdf.specs.Pbkdf2.{derived_key, t_of, u_of};
 use crate::bytes::xor_into;
 use crate::engine::Engine;
 use crate::mac::{KeyBlocks, Keyed, key_blocks};
-use luks_sha_lanes::{sha1_chains, sha256_chains, sha512_chains};
+use crate::{sha1_chains, sha256_chains, sha512_chains};
 use sha1::Sha1;
 use sha2::{Sha224, Sha256, Sha384, Sha512};
 

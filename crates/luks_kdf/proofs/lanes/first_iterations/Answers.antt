@@ -1,5 +1,5 @@
 use Rattle.std.proofs.Common.{◌≡◌, ◌∙◌, ◌*◌, ◌+◌, ap, arith, length, sym}
-use Rattle.luks_sha_lanes.proofs.WordLemmas.{written_next}
+use Rattle.luks_kdf.proofs.WordLemmas.{written_next}
 use Rattle.luks_kdf.specs.Hash.{digest_len}
 use Rattle.luks_kdf.specs.Pbkdf2.{u_of}
 use Rattle.luks_kdf.proofs.Pbkdf2Lemmas.{digest_ends, length-first_u}

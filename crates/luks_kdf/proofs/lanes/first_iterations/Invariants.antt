@@ -1,5 +1,5 @@
 use Rattle.std.proofs.Common.{◌≡◌, ◌+◌, ◌<◌, List, ℕ}
-use Rattle.luks_sha_lanes.specs.Chains.{digest_at}
+use Rattle.luks_kdf.specs.Chains.{digest_at}
 use Rattle.luks_kdf.specs.Hash.{digest_len}
 use Rattle.luks_kdf.specs.Hmac.{inner_block, outer_block}
 use Rattle.luks_kdf.specs.Pbkdf2.{u_of}

@@ -1,5 +1,5 @@
 use Rattle.std.proofs.Common.{◌≡◌, ◌-◌, ◌∙◌, List, ℕ, ap, take}
-use Rattle.luks_sha_lanes.specs.Chains.{chain_xor, digest_at}
+use Rattle.luks_kdf.specs.Chains.{chain_xor, digest_at}
 use Rattle.luks_kdf.specs.Hash.{block_len, hash_of, digest_len}
 use Rattle.luks_kdf.proofs.Pbkdf2Lemmas.{chain_xor_of_block}
 use Rattle.luks_kdf.proofs.lanes.write_group.Goals as goal

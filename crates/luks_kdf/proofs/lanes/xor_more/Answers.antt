@@ -1,5 +1,5 @@
 use Rattle.std.proofs.Common.{◌≡◌, ◌∙◌, ap, ap₂, add-one, arith, refl}
-use Rattle.luks_sha_lanes.specs.Chains.{chain, chain_xor, hmac_by}
+use Rattle.luks_kdf.specs.Chains.{chain, chain_xor, hmac_by}
 use Rattle.luks_kdf.specs.Bytes.{xor}
 use Rattle.luks_kdf.specs.Hash.{hash_of}
 use Rattle.luks_kdf.proofs.lanes.xor_more.Goals as goal

@@ -1,5 +1,5 @@
 use Rattle.std.proofs.Common.{◌≡◌, List, ℕ}
-use Rattle.luks_sha_lanes.specs.Chains.{chain, chain_xor}
+use Rattle.luks_kdf.specs.Chains.{chain, chain_xor}
 use Rattle.luks_kdf.specs.Hash.{hash_of}
 use Rattle.luks_kdf.proofs.lanes.xor_more.Given as goal
 

@@ -1,7 +1,7 @@
 use Rattle.std.proofs.Common.{◌≡◌, ◌∙◌, List, ℕ, ap₂, arith, drop}
 use Rattle.std.proofs.lemmas.List.{length-take, take-append-le, take-take}
 use Rattle.sha1.specs.Sha1.{sha1}
-use Rattle.luks_sha_lanes.specs.Chains.{chain_xor}
+use Rattle.luks_kdf.specs.Chains.{chain_xor}
 use Rattle.luks_kdf.proofs.lanes.Sha1Lanes.iterate.Goals as goal
 
 pub returns-then-used-eq1 : goal.returns-then-used-eq1

@@ -1,0 +1,11 @@
+use Rattle.std.proofs.Common.{arith}
+use Rattle.luks_kdf.proofs.LaneLemmas.{first_at}
+use Rattle.luks_kdf.proofs.sha256_block.first_four_steps.Goals as goal
+
+pub returns : goal.returns
+returns c = λ j b h in_lane block held.
+    let s1 = c.first_step-v.ensures j b h in_lane block held in
+    let s2 = c.first_step-v-2.ensures j b h in_lane block s1 in
+    let s3 = c.first_step-v-3.ensures j b h in_lane block (first_at j b h _ _ _ (omega arith) s2) in
+    let s4 = c.first_step.ensures j b h in_lane block (first_at j b h _ _ _ (omega arith) s3) in
+    first_at j b h _ _ _ (omega arith) s4

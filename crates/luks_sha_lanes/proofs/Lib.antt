@@ -1,4 +1,0 @@
-pub mod ChainLemmas
-pub mod LaneLemmas
-pub mod PairLemmas
-pub mod WordLemmas

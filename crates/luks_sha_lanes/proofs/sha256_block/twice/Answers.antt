@@ -1,5 +1,0 @@
-use Rattle.luks_sha_lanes.proofs.LaneLemmas.{all_doubled, low_doubled}
-use Rattle.luks_sha_lanes.proofs.sha256_block.twice.Goals as goal
-
-pub returns : goal.returns
-returns c = record { twice = all_doubled c.args.x c.fits-x.0; word = low_doubled c.args.x c.fits-x.0 }
