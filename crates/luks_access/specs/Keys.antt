@@ -6,8 +6,8 @@ use Rattle.luks_format.specs.declared.fault.HeaderFault.{HeaderFault}
 use Rattle.luks_format.specs.declared.refusal.SegmentFault.{SegmentFault}
 use Rattle.luks_format.specs.declared.segment.Segment.{Segment}
 use Rattle.luks_format.specs.Header1.{header1_len, is_luks1}
-use Rattle.luks2_binary.specs.Choice2.{chosen2_of}
-use Rattle.luks2_binary.specs.declared.header.Header2.{Header2}
+use Rattle.luks_format.specs.Choice2.{chosen2_of}
+use Rattle.luks_format.specs.declared.binary_header2.Header2.{Header2}
 use Rattle.luks_header.specs.Header.{header_read_len}
 use Rattle.luks_header.specs.HeaderSegment.{segment_of}
 use Rattle.luks_header.specs.declared.header.Header.{Header}

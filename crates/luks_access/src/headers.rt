@@ -4,7 +4,7 @@ ghost use Rattle.std.specs.Prelude.{◌≡◌};
 ghost use Rattle.luks_access.specs.Keys.{headers_end};
 
 use luks_format::header::{HEADER1_LEN, is_header1};
-use luks2_binary::header_search::{Search, header2};
+use luks_format::header2_search::{Search, header2};
 
 /// The number of first bytes of an image, or of the file of a detached header, that hold its
 /// headers: 592 for LUKS1, both headers for LUKS2. `None` if these, its first bytes, do not say: it

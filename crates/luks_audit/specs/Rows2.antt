@@ -3,7 +3,7 @@ use Rattle.std.specs.Prelude.{ℕ, ◌||◌, Bool, false, List, Option, Some, No
 use Rattle.std.specs.Prelude.{option_and_then, option_map, unwrap_or}
 use Rattle.luks_format.specs.Rule.{max_slots}
 use Rattle.luks_format.specs.declared.slot.VerdictKind.{VerdictKind}
-use Rattle.luks2_binary.specs.declared.header.Header2.{Header2}
+use Rattle.luks_format.specs.declared.binary_header2.Header2.{Header2}
 use Rattle.luks2_json.specs.List.{strings_at}
 use Rattle.luks2_json.specs.Member.{base64_member, decimal_member, has, in_member, integer_member, is_type}
 use Rattle.luks2_json.specs.Member.{string_is, string_member}

@@ -1,9 +1,9 @@
 -- The names of the members of each object, with their values as they are printed.
 use Rattle.std.specs.Prelude.{ℕ, List, [], ◌∷◌, Option, Some, None, codes, map, option_map, unwrap_or}
 use Rattle.luks_kdf.specs.Hash.{hash_name}
-use Rattle.luks2_binary.specs.declared.header.PairFinding.{PairFinding}
-use Rattle.luks2_binary.specs.declared.header.PairFinding.TheVariants.{PrimaryNotValid, SecondaryNotValid}
-use Rattle.luks2_binary.specs.declared.header.PairFinding.TheVariants.{SequencesDiffer}
+use Rattle.luks_format.specs.declared.binary_header2.PairFinding.{PairFinding}
+use Rattle.luks_format.specs.declared.binary_header2.PairFinding.TheVariants.{PrimaryNotValid, SecondaryNotValid}
+use Rattle.luks_format.specs.declared.binary_header2.PairFinding.TheVariants.{SequencesDiffer}
 use Rattle.luks_report.specs.Dump2.{role_text}
 use Rattle.luks_audit.specs.Text.{optional_text, text_value}
 use Rattle.luks_audit.specs.Token.{slot_tokens}

@@ -10,12 +10,12 @@ use Rattle.std.proofs.lemmas.Bool.{and_parts, false_from_ne_true, leb-true, ltb-
 use Rattle.std.proofs.lemmas.List.{drop-drop, drop_all, take-append-le, take-take}
 use Rattle.std.proofs.lemmas.Slice.Eq.{bytes_eq-Decides}
 use Rattle.luks_format.specs.Header1.{is_luks1}
-use Rattle.luks2_binary.specs.Choice2.{beginning_at, chosen2_of, fits}
-use Rattle.luks2_binary.specs.Choice2.{header2_at, is_binary_of, is_valid}
-use Rattle.luks2_binary.specs.Header2.{sizes}
-use Rattle.luks2_binary.specs.declared.header.HeaderRole.TheVariants.{Secondary}
-use Rattle.luks2_binary.proofs.ChoiceLemmas.{chosen_other}
-use Rattle.luks2_binary.proofs.ValidLemmas.{fits_parts, unfit-is_valid}
+use Rattle.luks_format.specs.Choice2.{beginning_at, chosen2_of, fits}
+use Rattle.luks_format.specs.Choice2.{header2_at, is_binary_of, is_valid}
+use Rattle.luks_format.specs.Header2.{sizes}
+use Rattle.luks_format.specs.declared.binary_header2.HeaderRole.TheVariants.{Secondary}
+use Rattle.luks_format.proofs.Choice2Lemmas.{chosen_other}
+use Rattle.luks_format.proofs.Valid2Lemmas.{fits_parts, unfit-is_valid}
 use Rattle.luks_header.specs.Header.{header_of}
 use Rattle.luks_header.proofs.LoadingLemmas.{header_other}
 use Rattle.luks_audit_run.specs.Magic.{IsQuiet, begins_magic, may_have_header}

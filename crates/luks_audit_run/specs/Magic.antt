@@ -2,7 +2,7 @@
 -- 1.2.3, section 2.1; LUKS2 On-Disk Format Specification 1.1, section 2.1).
 use Rattle.std.specs.Prelude.{◌≡◌, ◌*◌, ℕ, ◌||◌, Bool, false, List, [], ◌∷◌, bytes_eq, drop, take}
 use Rattle.std.specs.List.{list_any}
-use Rattle.luks2_binary.specs.Header2.{sizes}
+use Rattle.luks_format.specs.Header2.{sizes}
 
 -- the bytes begin with the magic bytes of a header: LUKS, or SKUL of a secondary one, and BA BE
 unfoldable pub begins_magic : List ℕ → Bool

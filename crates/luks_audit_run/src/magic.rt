@@ -2,7 +2,7 @@
 
 ghost use Rattle.std.specs.Prelude.{◌≡◌, drop, true};
 ghost use Rattle.std.specs.List.{list_any};
-ghost use Rattle.luks2_binary.specs.Header2.{sizes};
+ghost use Rattle.luks_format.specs.Header2.{sizes};
 ghost use Rattle.luks_audit_run.specs.Magic.{IsQuiet, begins_magic, may_have_header};
 
 /// The length of a sector in bytes.
@@ -57,7 +57,7 @@ fn begins_magic_at_any(bytes: &[u8], offsets: &[usize]) -> bool
 }
 
 // The offsets at which a secondary header may be.
-#[tactic(auto, unfolding(luks2_binary::specs::Header2::sizes))]
+#[tactic(auto, unfolding(luks_format::specs::Header2::sizes))]
 fn offsets() -> &'static [usize]
     ensures { result.now ≡ sizes }
 {

@@ -1,7 +1,10 @@
 pub mod AreaLemmas
+pub mod Choice2Lemmas
 pub mod FieldLemmas
 pub mod MadeLemmas
 pub mod RangeLemmas
+pub mod Search2Lemmas
 pub mod SectorLemmas
 pub mod TableLemmas
+pub mod Valid2Lemmas
 pub mod ValidationLemmas

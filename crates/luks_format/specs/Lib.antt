@@ -1,8 +1,13 @@
 pub mod Area
+pub mod Checksum2
+pub mod Choice2
 pub mod Derivation
 pub mod Fields
 pub mod Header1
+pub mod Header2
+pub mod ReadLen2
 pub mod Rule
+pub mod Search2
 pub mod SectorSize
 pub mod Segment
 pub mod Segment1
@@ -11,3 +16,4 @@ pub mod SkipReason
 pub mod Slot
 pub mod Slot1
 pub mod Table
+pub mod Text2

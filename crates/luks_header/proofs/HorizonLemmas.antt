@@ -4,12 +4,12 @@ use Rattle.std.proofs.Common.{length-take-le, lit≤, max, refl, sym, take}
 use Rattle.std.specs.Prelude.{if◌then◌else◌}
 use Rattle.std.proofs.lemmas.List.{take-append-drop}
 use Rattle.luks_format.specs.Header1.{is_luks1}
-use Rattle.luks2_binary.specs.Choice2.{binary_at, fits, is_valid}
-use Rattle.luks2_binary.specs.Header2.{sizes}
-use Rattle.luks2_binary.specs.ReadLen2.{IsNextEnd, furthest, probe2_len, probe_end}
-use Rattle.luks2_binary.proofs.ChoiceLemmas.{probe_other, probe_primary}
-use Rattle.luks2_binary.proofs.ValidLemmas.{fits_parts, probe_fit, probe_unfit}
-use Rattle.luks2_binary.proofs.ValidLemmas.{size_range, valid_range}
+use Rattle.luks_format.specs.Choice2.{binary_at, fits, is_valid}
+use Rattle.luks_format.specs.Header2.{sizes}
+use Rattle.luks_format.specs.ReadLen2.{IsNextEnd, furthest, probe2_len, probe_end}
+use Rattle.luks_format.proofs.Choice2Lemmas.{probe_other, probe_primary}
+use Rattle.luks_format.proofs.Valid2Lemmas.{fits_parts, probe_fit, probe_unfit}
+use Rattle.luks_format.proofs.Valid2Lemmas.{size_range, valid_range}
 use Rattle.luks_header.specs.Header.{header_of, header_read_len, probe_len}
 use Rattle.luks_header.proofs.KnownLemmas.{probe_is}
 use Rattle.luks_header.proofs.LoadingLemmas.{decided}

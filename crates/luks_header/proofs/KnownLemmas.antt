@@ -22,10 +22,10 @@ use Rattle.luks_format.specs.Fields.{at}
 use Rattle.luks_format.specs.declared.fault.HeaderFault.TheVariants.{Cut, Json, Memory}
 use Rattle.luks_format.specs.Header1.{header1_len, header1_of, is_luks1}
 use Rattle.luks_format.specs.Slot1.{payload1_start}
-use Rattle.luks2_binary.specs.Choice2.{chosen2_of}
-use Rattle.luks2_binary.specs.Text2.{json_text_of}
-use Rattle.luks2_binary.specs.declared.header.Header2.{Header2}
-use Rattle.luks2_binary.proofs.ChoiceLemmas.{read_attached, probe_some}
+use Rattle.luks_format.specs.Choice2.{chosen2_of}
+use Rattle.luks_format.specs.Text2.{json_text_of}
+use Rattle.luks_format.specs.declared.binary_header2.Header2.{Header2}
+use Rattle.luks_format.proofs.Choice2Lemmas.{read_attached, probe_some}
 use Rattle.luks2_json.specs.Member.{is_length_for}
 use Rattle.luks2_json.specs.Tree.{tree_of}
 use Rattle.serde_json.specs.Data.{Data}

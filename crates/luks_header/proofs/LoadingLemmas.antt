@@ -10,14 +10,14 @@ use Rattle.luks_format.specs.Area.{HeaderAreaModel, IsStart, Loads}
 use Rattle.luks_format.specs.declared.fault.HeaderFault.{HeaderFault}
 use Rattle.luks_format.specs.declared.fault.HeaderFault.TheVariants.{Json, Read, Memory, NotLuks, Cut}
 use Rattle.luks_format.specs.Header1.{is_luks1}
-use Rattle.luks2_binary.specs.Choice2.{chosen2_of}
-use Rattle.luks2_binary.specs.declared.header.Header2.{Header2}
-use Rattle.luks2_binary.specs.ReadLen2.{IsNextEnd, probe2_len}
-use Rattle.luks2_binary.specs.Search2.{IsSearchOf}
-use Rattle.luks2_binary.specs.declared.header_search.Search.{Search}
-use Rattle.luks2_binary.proofs.ChoiceLemmas.{decided2, text_more}
-use Rattle.luks2_binary.proofs.SearchLemmas.{search_more}
-use Rattle.luks2_binary.proofs.ValidLemmas.{at_more, longer}
+use Rattle.luks_format.specs.Choice2.{chosen2_of}
+use Rattle.luks_format.specs.declared.binary_header2.Header2.{Header2}
+use Rattle.luks_format.specs.ReadLen2.{IsNextEnd, probe2_len}
+use Rattle.luks_format.specs.Search2.{IsSearchOf}
+use Rattle.luks_format.specs.declared.header2_search.Search.{Search}
+use Rattle.luks_format.proofs.Choice2Lemmas.{decided2, text_more}
+use Rattle.luks_format.proofs.Search2Lemmas.{search_more}
+use Rattle.luks_format.proofs.Valid2Lemmas.{at_more, longer}
 use Rattle.luks2_json.specs.Tree.{tree_of}
 use Rattle.luks_header.specs.Header.{HasHeader2, HasNoHeader, ReadsNoHeader, ConsumedHeaderLen, falls_short, header_of}
 use Rattle.luks_header.specs.Header.{header_read_len, probe_len, with_text}

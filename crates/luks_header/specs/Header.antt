@@ -4,10 +4,10 @@ use Rattle.std.specs.Prelude.{◌*◌, nat_lt, if◌then◌else◌, ok_or, optio
 use Rattle.luks_io.specs.Devices.{ConsumedExactly, ConsumedFewer, ConsumedAtMost, counted}
 use Rattle.luks_format.specs.Fields.{at}
 use Rattle.luks_format.specs.Header1.{header1_len, header1_of, is_luks1}
-use Rattle.luks2_binary.specs.Choice2.{chosen2_of}
-use Rattle.luks2_binary.specs.ReadLen2.{probe2_len}
-use Rattle.luks2_binary.specs.Text2.{json_text_of}
-use Rattle.luks2_binary.specs.declared.header.Header2.{Header2}
+use Rattle.luks_format.specs.Choice2.{chosen2_of}
+use Rattle.luks_format.specs.ReadLen2.{probe2_len}
+use Rattle.luks_format.specs.Text2.{json_text_of}
+use Rattle.luks_format.specs.declared.binary_header2.Header2.{Header2}
 use Rattle.luks2_json.specs.Tree.{tree_of}
 use Rattle.luks2_metadata.specs.declared.bounds.Bounds.{Bounds}
 use Rattle.luks_header.specs.declared.header.Header.{Header}

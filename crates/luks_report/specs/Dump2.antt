@@ -16,9 +16,9 @@ use Rattle.luks_format.specs.declared.derivation.Derivation.TheVariants.{Pbkdf2,
 use Rattle.luks_format.specs.declared.slot.SlotParts.{SlotParts}
 use Rattle.luks_format.specs.declared.slot.Verdict.{Verdict}
 use Rattle.luks_format.specs.declared.slot.Verdict.TheVariants.{Usable, Disabled, Skipped}
-use Rattle.luks2_binary.specs.declared.header.Header2.{Header2}
-use Rattle.luks2_binary.specs.declared.header.HeaderRole.{HeaderRole}
-use Rattle.luks2_binary.specs.declared.header.HeaderRole.TheVariants.{Primary, Secondary}
+use Rattle.luks_format.specs.declared.binary_header2.Header2.{Header2}
+use Rattle.luks_format.specs.declared.binary_header2.HeaderRole.{HeaderRole}
+use Rattle.luks_format.specs.declared.binary_header2.HeaderRole.TheVariants.{Primary, Secondary}
 use Rattle.luks2_metadata.specs.Digest2.{digests2_of}
 use Rattle.luks2_metadata.specs.Segment2.{segment2_of}
 use Rattle.luks2_metadata.specs.declared.luks2_digest.Digest.{Digest}

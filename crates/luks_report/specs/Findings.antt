@@ -16,9 +16,9 @@ use Rattle.luks_format.specs.declared.segment.Segment.{Segment}
 use Rattle.luks_format.specs.declared.slot.Slot.{Slot}
 use Rattle.luks_format.specs.declared.slot.Verdict.{Verdict}
 use Rattle.luks_format.specs.declared.slot.Verdict.TheVariants.{Usable, Skipped}
-use Rattle.luks2_binary.specs.declared.header.PairFinding.{PairFinding}
-use Rattle.luks2_binary.specs.declared.header.PairFinding.TheVariants.{PrimaryNotValid, SecondaryNotValid}
-use Rattle.luks2_binary.specs.declared.header.PairFinding.TheVariants.{SequencesDiffer}
+use Rattle.luks_format.specs.declared.binary_header2.PairFinding.{PairFinding}
+use Rattle.luks_format.specs.declared.binary_header2.PairFinding.TheVariants.{PrimaryNotValid, SecondaryNotValid}
+use Rattle.luks_format.specs.declared.binary_header2.PairFinding.TheVariants.{SequencesDiffer}
 use Rattle.luks_report.specs.declared.findings.Finding.{Finding}
 use Rattle.luks_report.specs.declared.findings.Finding.TheVariants as F
 

@@ -4,7 +4,7 @@ use Rattle.std.proofs.lemmas.Bool.Decides.{nat_tests}
 use Rattle.luks_cipher.specs.Sector.{is_mode_key_length}
 use Rattle.luks_cipher.specs.declared.mode.Mode.{Mode}
 use Rattle.luks_cipher.proofs.ModeLemmas.{key_length_of_mode, max_mode_key}
-use Rattle.luks2_binary.specs.Header2.{sizes}
+use Rattle.luks_format.specs.Header2.{sizes}
 use Rattle.luks_volume.specs.Ranges2.{AreParameters2, is_header_size, Seal2}
 
 -- each of the nine lengths of a header is from 16,384 to 4,194,304 bytes

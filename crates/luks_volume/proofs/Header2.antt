@@ -11,9 +11,9 @@ use Rattle.luks_format.specs.Fields.{at, be64, text_of}
 use Rattle.luks_kdf.specs.Hash.{hash_named, hash_of}
 use Rattle.luks_kdf.specs.declared.hash.Hash.TheVariants.{Sha256}
 use Rattle.luks_kdf.proofs.Pbkdf2Lemmas.{length-hash_of}
-use Rattle.luks2_binary.specs.Checksum2.{checksum_matches, without_checksum}
-use Rattle.luks2_binary.specs.Choice2.{beginning_at, is_binary_of, binary_at, fits as has_binary, is_valid, size_at}
-use Rattle.luks2_binary.specs.Header2.{checksum_hash_in, hdr_offset_in, sequence_in, size_in}
+use Rattle.luks_format.specs.Checksum2.{checksum_matches, without_checksum}
+use Rattle.luks_format.specs.Choice2.{beginning_at, is_binary_of, binary_at, fits as has_binary, is_valid, size_at}
+use Rattle.luks_format.specs.Header2.{checksum_hash_in, hdr_offset_in, sequence_in, size_in}
 use Rattle.luks_volume.specs.Pieces.{padded}
 use Rattle.luks_volume.proofs.FieldLemmas.{Part, part, at_at, at_inside, length-padded, padded_begins, AreParts}
 use Rattle.luks_volume.proofs.FieldLemmas.{are_parts}

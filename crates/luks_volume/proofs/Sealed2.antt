@@ -26,12 +26,12 @@ use Rattle.std.specs.Int.{to_be_bytes, w64}
 use Rattle.std.proofs.lemmas.Str.{is_utf8-from_IsUtf8}
 use Rattle.luks_kdf.specs.declared.hash.Hash.TheVariants.{Sha256}
 use Rattle.luks_format.specs.Header1.{is_luks1}
-use Rattle.luks2_binary.specs.Choice2.{beginning_at, binary_at, chosen2_of, header2_at}
-use Rattle.luks2_binary.specs.Choice2.{pair_finding_of}
-use Rattle.luks2_binary.specs.Header2.{sequence_in, size_in}
-use Rattle.luks2_binary.specs.Text2.{json_text_of}
-use Rattle.luks2_binary.specs.declared.header.Header2.{Header2}
-use Rattle.luks2_binary.specs.declared.header.HeaderRole.TheVariants.{Primary}
+use Rattle.luks_format.specs.Choice2.{beginning_at, binary_at, chosen2_of, header2_at}
+use Rattle.luks_format.specs.Choice2.{pair_finding_of}
+use Rattle.luks_format.specs.Header2.{sequence_in, size_in}
+use Rattle.luks_format.specs.Text2.{json_text_of}
+use Rattle.luks_format.specs.declared.binary_header2.Header2.{Header2}
+use Rattle.luks_format.specs.declared.binary_header2.HeaderRole.TheVariants.{Primary}
 use Rattle.luks2_json.specs.Tree.{has_objects, tree_of}
 use Rattle.luks_header.specs.Header.{bounds2_of, header_of as read_header}
 use Rattle.luks_header.specs.declared.header.Header.TheVariants.{V2}

@@ -5,7 +5,7 @@ use Rattle.std.specs.Prelude.{true, All, ◌<◌, ◌^◌, map}
 use Rattle.std.specs.Option.{option_map_or}
 use Rattle.std.specs.List.{list_any}
 use Rattle.luks_format.specs.SectorSize.{bytes_of}
-use Rattle.luks2_binary.specs.Header2.{sizes}
+use Rattle.luks_format.specs.Header2.{sizes}
 use Rattle.luks_volume.specs.Ranges.{AreDistinct, FitsKey, FitsPlain, FitsText}
 use Rattle.luks_aes.specs.Bytes.{IsBytes}
 pub use Rattle.luks_volume.specs.declared.parameters.Seal2.{Seal2}

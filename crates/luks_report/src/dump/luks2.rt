@@ -6,8 +6,8 @@ ghost use Rattle.luks_header.specs.declared.header.Header.TheVariants.{V2};
 
 use crate::dump_line::{push_field, push_number, push_text};
 use crate::escaping::escape;
+use luks_format::binary_header2::{Header2, HeaderRole};
 use luks_header::header::{Header, bounds};
-use luks2_binary::header::{Header2, HeaderRole};
 use luks2_json::tree::Metadata;
 use std::alloc::{AllocError, Global};
 

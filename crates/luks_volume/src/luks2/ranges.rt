@@ -15,7 +15,7 @@ static SIZES: [u64; 9] = [
 ];
 
 /// The size is one of the nine lengths that a header and its JSON area can have together.
-#[tactic(auto, unfolding(crate::specs::Ranges2::is_header_size, luks2_binary::specs::Header2::sizes))]
+#[tactic(auto, unfolding(crate::specs::Ranges2::is_header_size, luks_format::specs::Header2::sizes))]
 fn is_header_size(size: u64) -> bool
     ensures { result ≡ is_header_size size }
 {

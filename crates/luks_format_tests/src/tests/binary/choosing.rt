@@ -2,10 +2,10 @@
 
 use super::fixture::{JSON, PRIMARY, SECONDARY, Sketch, flip, image_of, read_from};
 use crate::tests::shared::assert_in;
+use luks_format::binary_header2::{Header2, HeaderRole, PairFinding};
 use luks_format::fault::HeaderFault;
 use luks_io::memory::MemSource;
 use luks_kdf::Hash;
-use luks2_binary::header::{Header2, HeaderRole, PairFinding};
 use std::process::Abort;
 
 // Which header is chosen, its length, and its finding; or why there is none.

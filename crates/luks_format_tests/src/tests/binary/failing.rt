@@ -3,14 +3,14 @@
 
 use super::fixture::{JSON, PRIMARY, SECONDARY, Sketch, fault_of, flip, image_of, read_from, seal};
 use crate::tests::shared::{assert_in, assert_of};
+use luks_format::binary_header2::{Header2, HeaderRole, PairFinding};
 use luks_format::fault::HeaderFault;
+use luks_format::header2_search::{Search, header2};
 use luks_io::memory::MemSource;
 use luks_kdf::Hash;
 use luks_test_support::bytes::{put, range_mut};
 use luks_test_support::devices::{BrokenSource, FlakySource};
 use luks_test_support::scarce::Scarcity;
-use luks2_binary::header::{Header2, HeaderRole, PairFinding};
-use luks2_binary::header_search::{Search, header2};
 use std::alloc::Global;
 use std::process::Abort;
 

@@ -4,12 +4,12 @@
 //! on the way.
 
 use luks_format::area::HeaderArea;
+use luks_format::binary_header2::Header2;
 use luks_format::fault::HeaderFault;
 use luks_header::header::{Header, read_header};
 use luks_io::source::Source;
 use luks_kdf::{Hash, digest};
 use luks_test_support::bytes::{put, range_mut};
-use luks2_binary::header::Header2;
 use std::alloc::Global;
 use std::process::Abort;
 

@@ -3,7 +3,7 @@ use Rattle.std.specs.Prelude.{if◌then◌else◌}
 use Rattle.luks_io.specs.Counts.{Reads}
 use Rattle.luks_io.specs.Devices.{IfKnown}
 use Rattle.luks_format.specs.Area.{IsStart}
-use Rattle.luks2_binary.specs.Search2.{IsSearchOf}
+use Rattle.luks_format.specs.Search2.{IsSearchOf}
 use Rattle.luks_header.specs.Header.{probe_len}
 use Rattle.luks_header.proofs.header.read_header.Given as goal
 

@@ -1,3 +1,0 @@
-pub mod ChoiceLemmas
-pub mod SearchLemmas
-pub mod ValidLemmas

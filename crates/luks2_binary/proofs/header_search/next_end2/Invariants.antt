@@ -1,7 +1,0 @@
-use Rattle.std.proofs.Common.{◌≡◌}
-use Rattle.luks2_binary.specs.Search2.{IsSearchOf}
-use Rattle.luks2_binary.specs.declared.header_search.Search.TheVariants.{Passed}
-use Rattle.luks2_binary.proofs.header_search.next_end2.Given as goal
-
-abbrev pub invariant-loop-index : goal.invariant-loop-index
-invariant-loop-index l = record { searched : IsSearchOf l.bytes l.search; at : l.search ≡ Passed l.index }
