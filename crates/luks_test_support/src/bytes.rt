@@ -1,4 +1,28 @@
-//! Changes of bytes, and pieces of an image to be changed.
+//! Plain bytes, pieces of an image, and changes of them.
+
+ghost use Rattle.std.specs.Prelude.{◌≡◌, IfOk, drop, length, take};
+
+use std::alloc::{AllocError, Global};
+
+/// This many bytes, each one more than the one before, and 0 after 250.
+pub fn counted(alloc: Global, len: usize) -> Result<Vec<u8>, AllocError>
+    ensures { IfOk result (λ bytes. length bytes.items ≡ len) }
+{
+    let mut bytes = Vec::new(alloc);
+    for i in 0..len {
+        bytes.push((i % 251) as u8)?;
+    }
+    Ok(bytes)
+}
+
+/// This many bytes from this offset on, or as many as there are.
+pub fn at(image: &[u8], offset: usize, len: usize) -> &[u8]
+    ensures { result.now ≡ take len (drop offset image.now) }
+{
+    let offset = offset.min(image.len());
+    let rest = &image[offset..];
+    &rest[..len.min(rest.len())]
+}
 
 /// Overwrites bytes from an offset on, up to their end.
 pub fn put(bytes: &mut [u8], offset: usize, with: &[u8]) {

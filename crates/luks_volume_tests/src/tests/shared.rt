@@ -1,6 +1,6 @@
 //! What tests of several modules share: an assertion, and values that stay to the end of a test.
 
-use luks_seal_fixtures::bytes;
+use luks_test_support::bytes;
 use std::process::Abort;
 
 /// Asserts what holds in this case.

@@ -8,7 +8,7 @@ use super::tables::Output;
 use super::volume::{
     AT_START, Changes, PASSPHRASE, PLAIN, USUAL_LEN, changed, payload_of, prefix2, usual,
 };
-use luks_seal_fixtures::bytes::at;
+use luks_test_support::bytes::at;
 use std::process::Abort;
 
 const CAT_1: &str = "luksCat --key-file f --header h --key-slot 1 i";

@@ -6,7 +6,7 @@ use super::volume::{
     AT_START, KEY, PASSPHRASE, PLAIN, PLAIN_LEN, USUAL, changed, payload_of, sealed, usual,
 };
 use luks_cipher::Mode;
-use luks_seal_fixtures::bytes::at;
+use luks_test_support::bytes::at;
 use std::process::Abort;
 
 /// A mode, the length of the key in bytes, where the key material ends, and rows.

@@ -6,7 +6,7 @@ use super::tables::{CAT_ROW, Output, Row, check_rows, opened, refused, written};
 use super::volume::{
     Changes, NEWEST, PASSPHRASE, PLAIN_LEN, SMALL, SMALL_LEN, USUAL_LEN, changed, sealed, usual,
 };
-use luks_seal_fixtures::bytes::at;
+use luks_test_support::bytes::at;
 use std::process::Abort;
 
 const NEWLINE: &[u8] = b"correct horse\n";

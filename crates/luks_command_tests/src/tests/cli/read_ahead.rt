@@ -12,7 +12,7 @@ use luks_io::memory::{MemSink, MemSource};
 use luks_io::read_ahead::ReadAheadSource;
 use luks_report::message::Message;
 use luks_report::report::Report;
-use luks_seal_fixtures::bytes::at;
+use luks_test_support::bytes::at;
 use luks_test_support::devices::FlakySource;
 use std::process::Abort;
 

@@ -7,7 +7,7 @@ use super::same::assert_same_in;
 use luks_args::planning::PlanFault;
 use luks_commands::plan_fault::report_of_fault;
 use luks_report::message::Message;
-use luks_seal_fixtures::bytes::at;
+use luks_test_support::bytes::at;
 use std::process::Abort;
 
 pub(super) const ZEROS: &[u8] = &[0; 28];

@@ -2,7 +2,7 @@
 
 use super::runs::{ALL, CAT, DONE, Inputs, Limits, NO_FAULT, check_within};
 use super::volume::{PASSPHRASE, PLAIN, changed};
-use luks_seal_fixtures::bytes::at;
+use luks_test_support::bytes::at;
 use std::process::Abort;
 
 /// What a run writes.

@@ -4,7 +4,7 @@ use super::runs::{BEFORE, CAT, CUT, DONE, Inputs, NOT_LUKS, TORN_511, check};
 use super::same::assert_same_in;
 use super::tables::{CAT_ROW, Output, Row, check_rows};
 use super::volume::{PASSPHRASE, PLAIN, PLAIN_LEN, SMALL_LEN, sealed2, small, usual};
-use luks_seal_fixtures::bytes::at;
+use luks_test_support::bytes::at;
 use std::process::Abort;
 
 // A row with the first `len` bytes of the image, all of which `luksCat` consumes: it writes this

@@ -2,8 +2,7 @@
 
 use luks_cipher::Mode;
 use luks_kdf::Hash;
-use luks_seal_fixtures::bytes::{at, counted};
-use luks_test_support::bytes::put_each;
+use luks_test_support::bytes::{at, counted, put_each};
 use luks_test_support::header2::{self, image_of};
 use luks_volume::luks1::seal1;
 use luks_volume::parameters::{Seal1, Slot1};

@@ -12,8 +12,8 @@ use super::volume::{
     plain_of, prefix2_of, sealed2, text_of,
 };
 use luks_kdf::Hash;
-use luks_seal_fixtures::bytes::at;
-use luks_seal_fixtures::parameters::parameters2;
+use luks_test_support::bytes::at;
+use luks_test_support::parameters::parameters2;
 use luks_volume::luks2::seal2;
 use luks_volume::parameters::{Seal2, Slot2};
 use std::process::Abort;

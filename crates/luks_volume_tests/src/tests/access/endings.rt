@@ -6,7 +6,7 @@ use luks_access::volume::Volume;
 use luks_format::sector_size::SectorSize;
 use luks_payload::fault::PayloadFault;
 use luks_payload::state::Step;
-use luks_seal_fixtures::bytes::at;
+use luks_test_support::bytes::at;
 use std::process::Abort;
 
 /// How an image ends: its length, that of its plaintext, and how the payload ends.

@@ -7,7 +7,7 @@ use luks_access::fault::RangeFault;
 use luks_access::volume::Volume;
 use luks_access::{HeaderFault, VolumeFault};
 use luks_format::sector_size::SectorSize;
-use luks_seal_fixtures::bytes::at;
+use luks_test_support::bytes::at;
 use std::process::Abort;
 
 /// A read of the image failed.

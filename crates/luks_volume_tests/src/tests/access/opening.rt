@@ -9,8 +9,8 @@ use luks_access::{
     HeaderFault, HeaderLocation, OpenFault, PassphraseFault, SlotChoice, VolumeFault,
 };
 use luks_format::sector_size::SectorSize;
-use luks_seal_fixtures::bytes::at;
-use luks_seal_fixtures::parameters::KEY;
+use luks_test_support::bytes::at;
+use luks_test_support::parameters::KEY;
 use luks_test_support::scarce::Scarcity;
 use std::alloc::Global;
 use std::process::Abort;

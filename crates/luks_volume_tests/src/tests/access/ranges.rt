@@ -7,7 +7,7 @@ use luks_access::fault::RangeFault;
 use luks_access::sectors::decrypt_sectors;
 use luks_access::volume::Volume;
 use luks_format::sector_size::SectorSize;
-use luks_seal_fixtures::bytes::at;
+use luks_test_support::bytes::at;
 use std::process::Abort;
 
 /// The length of each text here: three of the longest sectors.

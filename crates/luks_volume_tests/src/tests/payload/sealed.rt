@@ -10,9 +10,9 @@ use luks_header::segment::Segment;
 use luks_kdf::{Hash, Work, af_merge, pbkdf2};
 use luks_payload::pump::Pump;
 use luks_payload::state::Step;
-use luks_seal_fixtures::bytes::at;
-use luks_seal_fixtures::parameters::{KEY, SALT, parameters1, slot1};
+use luks_test_support::bytes::at;
 use luks_test_support::devices::{FlakySink, FlakySource};
+use luks_test_support::parameters::{KEY, SALT, parameters1, slot1};
 use luks_volume::luks1::seal1;
 use std::process::Abort;
 

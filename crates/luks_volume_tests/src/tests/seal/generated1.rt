@@ -3,8 +3,8 @@
 
 use luks_cipher::Mode;
 use luks_kdf::Hash;
-use luks_seal_fixtures::parameters::slot1 as slot;
 use luks_test_support::numbers::next;
+use luks_test_support::parameters::slot1 as slot;
 use luks_volume::luks1::seal1;
 use luks_volume::parameters::{Seal1, Slot1};
 use std::process::Abort;

@@ -2,7 +2,7 @@
 //! reports that, and never anything else.
 
 use crate::tests::shared::counted;
-use luks_seal_fixtures::parameters::{parameters1, parameters2, slot1, slot2};
+use luks_test_support::parameters::{parameters1, parameters2, slot1, slot2};
 use luks_test_support::scarce::Scarcity;
 use luks_volume::luks1::seal1;
 use luks_volume::luks2::seal2;

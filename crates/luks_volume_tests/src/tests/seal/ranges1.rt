@@ -3,8 +3,8 @@
 use super::{KEY_LENGTHS, check_fits};
 use crate::tests::shared::counted;
 use luks_cipher::Mode;
-use luks_seal_fixtures::bytes::at;
-use luks_seal_fixtures::parameters::{SALT, parameters1, slot1};
+use luks_test_support::bytes::at;
+use luks_test_support::parameters::{SALT, parameters1, slot1};
 use luks_volume::luks1::seal1;
 use luks_volume::parameters::{Seal1, Slot1};
 use std::process::Abort;

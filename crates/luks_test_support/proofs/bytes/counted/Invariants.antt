@@ -1,5 +1,5 @@
 use Rattle.std.proofs.Common.{length, ◌≡◌}
-use Rattle.luks_seal_fixtures.proofs.bytes.counted.Given as goal
+use Rattle.luks_test_support.proofs.bytes.counted.Given as goal
 
 abbrev pub invariant-loop-i : goal.invariant-loop-i
 invariant-loop-i l = length l.bytes.items ≡ l.i
