@@ -17,7 +17,7 @@ ELSEWHERE = {"LUKSRD_HEADER_BYTES": ("luks_format/src/area.rt", "MAX_LEN"),
 # the structs whose contents only the library knows, the crates that declare the structs in them,
 # the fields that are text in C, and the functions that take any bytes
 OPAQUE = ["luksrd_cipher"]
-BELOW = ["luks_aes", "luks_aes_batch", "luks_cipher"]
+BELOW = ["luks_aes", "luks_cipher"]
 TEXTS = {("luksrd_message", "text")}
 UNTYPED = ["luksrd_wipe"]
 EXPORTED = re.compile(

@@ -1,6 +1,13 @@
+pub mod BatchMixLemmas
 pub mod Bytes
-pub mod StateLemmas
-pub mod ScheduleLemmas
-pub mod MixingLemmas
-pub mod Undone
 pub mod ColumnLemmas
+pub mod GateLemmas
+pub mod MixingLemmas
+pub mod PackLemmas
+pub mod PairLemmas
+pub mod RoundLemmas
+pub mod ScheduleLemmas
+pub mod ShiftLemmas
+pub mod StateLemmas
+pub mod Undone
+pub mod WordLemmas

@@ -1,5 +1,13 @@
-pub mod Bytes
-pub mod Field
 pub mod Aes
+pub mod BitPlanes
+pub mod Blocks
+pub mod Bytes
 pub mod Columns
+pub mod Field
 pub mod KeySchedule
+pub mod Mixing
+pub mod RoundKeys
+pub mod RowShifts
+pub mod Runs
+pub mod Shuffles
+pub mod Words

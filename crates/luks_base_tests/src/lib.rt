@@ -1,6 +1,6 @@
 //! Tests of the lowest crates, through their public calls: `luks_io` and `luks_test_support`
 //! (devices, and the failing devices for tests), `luks_kdf` (hash functions, keys and stripes),
-//! `luks_argon2`, `luks_aes`, `luks_aes_batch` and `luks_cipher`.
+//! `luks_argon2`, `luks_aes` and `luks_cipher`.
 //!
 //! They are in a crate of their own, so that the crates below are not proved again with them.
 #![tactic(auto)]

@@ -2,7 +2,7 @@
 use Rattle.std.specs.Prelude.{ℕ, ◌≡◌, ◌==◌, ◌+◌, ◌-◌, ◌*◌, ◌/◌, if◌then◌else◌}
 use Rattle.std.specs.Prelude.{drop, nat_le, replicate, take, Option, None, Some}
 use Rattle.std.specs.Prelude.{List}
-use Rattle.luks_aes_batch.specs.declared.round_key.RoundKey.{RoundKey}
+use Rattle.luks_aes.specs.declared.batch.round_key.RoundKey.{RoundKey}
 use Rattle.luks_cipher.specs.Expanded.{AreExpanded}
 use Rattle.luks_cipher.specs.Sector.{is_mode_key_length}
 use Rattle.luks_cipher.specs.declared.expanded.ExpandedKeys.{ExpandedKeys}

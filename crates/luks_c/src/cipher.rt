@@ -9,8 +9,7 @@ ghost use Rattle.luks_open.specs.declared.unlocked.UnlockedVolume.{UnlockedVolum
 
 use crate::code::{BAD_VOLUME, OK};
 use crate::volume::{LuksrdVolume, key, segment};
-use luks_aes::KeySchedule;
-use luks_aes_batch::{KeyPlane, RoundKey, RoundKeys};
+use luks_aes::{KeyPlane, KeySchedule, RoundKey, RoundKeys};
 use luks_cipher::{ExpandedKeys, Mode};
 
 /// An open volume with its expanded keys. All of it is plain numbers.

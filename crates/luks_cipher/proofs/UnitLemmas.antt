@@ -16,8 +16,8 @@ use Rattle.luks_aes.specs.Aes.{cell, encrypted, decrypted}
 use Rattle.luks_aes.specs.Bytes.{IsBytes}
 use Rattle.luks_aes.proofs.Undone.{whole_state}
 use Rattle.luks_aes.proofs.MixingLemmas.{same_cells}
-use Rattle.luks_aes_batch.specs.RoundKeys.{IsBatchKey}
-use Rattle.luks_aes_batch.specs.declared.round_keys.RoundKeys.{RoundKeys}
+use Rattle.luks_aes.specs.RoundKeys.{IsBatchKey}
+use Rattle.luks_aes.specs.declared.batch.round_keys.RoundKeys.{RoundKeys}
 use Rattle.luks_cipher.specs.Xts.{data_key, tweak_key, doubled, tweak_of, block_at, joined, block_xor}
 use Rattle.luks_cipher.specs.Xts.{block_encrypted, block_decrypted, tweak_after}
 use Rattle.luks_cipher.specs.Cbc.{block_before}

@@ -15,7 +15,7 @@ use Rattle.luks_aes.proofs.ColumnLemmas.{IsState, made_state, xor_byte, bytes_ni
 use Rattle.luks_aes.proofs.ColumnLemmas.{encrypted_state}
 use Rattle.luks_aes.proofs.Undone.{whole_state, same_states, xor_twice, decrypted-encrypted}
 use Rattle.luks_aes.proofs.Undone.{decrypted_state, encrypted-decrypted}
-use Rattle.luks_aes_batch.proofs.RoundLemmas.{block_state}
+use Rattle.luks_aes.proofs.RoundLemmas.{block_state}
 
 -- ---- one block
 

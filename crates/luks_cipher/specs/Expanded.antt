@@ -3,8 +3,8 @@ use Rattle.std.specs.Prelude.{ℕ, List}
 use Rattle.sha2.specs.Sha256.{sha256}
 use Rattle.luks_aes.specs.KeySchedule.{IsScheduleOf}
 use Rattle.luks_aes.specs.declared.key_schedule.KeySchedule.{KeySchedule}
-use Rattle.luks_aes_batch.specs.RoundKeys.{IsBatchKey}
-use Rattle.luks_aes_batch.specs.declared.round_keys.RoundKeys.{RoundKeys}
+use Rattle.luks_aes.specs.RoundKeys.{IsBatchKey}
+use Rattle.luks_aes.specs.declared.batch.round_keys.RoundKeys.{RoundKeys}
 use Rattle.luks_cipher.specs.Xts.{data_key, tweak_key}
 use Rattle.luks_cipher.specs.declared.expanded.ExpandedKeys.{ExpandedKeys}
 use Rattle.luks_cipher.specs.declared.mode.Mode.{Mode}

@@ -5,13 +5,12 @@ ghost use Rattle.std.specs.Prelude.{take, drop};
 ghost use Rattle.std.specs.Prelude.{slice_index};
 ghost use Rattle.luks_aes.specs.Aes.{encrypted, decrypted};
 ghost use Rattle.luks_aes.specs.Bytes.{IsBytes};
-ghost use Rattle.luks_aes_batch.specs.RoundKeys.{IsBatchKey};
+ghost use Rattle.luks_aes.specs.RoundKeys.{IsBatchKey};
 ghost use Rattle.luks_cipher.specs.Xts.{block_xor, block_at};
 ghost use Rattle.luks_cipher.specs.Cbc.{block_before, cbc_encrypted, cbc_decrypted};
 
 use crate::block::{batch_size, block_of, block_xor};
-use luks_aes::AesKey;
-use luks_aes_batch::{BatchKey, RoundKeys};
+use luks_aes::{AesKey, BatchKey, RoundKeys};
 use std::simd::prelude::*;
 
 // The elements of a key are bytes, as `AesKey::rounds` ensures.

@@ -6,8 +6,7 @@ ghost use Rattle.luks_cipher.specs.Sector.{is_mode_key_length, units_decrypted};
 
 use crate::mode::Mode;
 use crate::units::UnitKeys;
-use luks_aes::{AesKey, KeySchedule};
-use luks_aes_batch::RoundKeys;
+use luks_aes::{AesKey, KeySchedule, RoundKeys};
 use sha2::{Digest, Sha256};
 
 /// The expanded keys with which sectors are decrypted. They are plain numbers, of any values: only

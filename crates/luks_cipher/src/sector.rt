@@ -14,8 +14,7 @@ use crate::cbc::{decrypt_chain, encrypt_chain};
 use crate::mode::Mode;
 use crate::units::{UnitKeys, number_block};
 use crate::xts::XtsKey;
-use luks_aes::AesKey;
-use luks_aes_batch::BatchKey;
+use luks_aes::{AesKey, BatchKey};
 use sha2::{Digest, Sha256};
 use std::marker::Model;
 

@@ -10,8 +10,7 @@ ghost use Rattle.luks_cipher.specs.Sector.{sector_decrypted, units_decrypted};
 
 use crate::mode::Mode;
 use crate::{cbc, xts};
-use luks_aes::KeySchedule;
-use luks_aes_batch::RoundKeys;
+use luks_aes::{KeySchedule, RoundKeys};
 use std::simd::prelude::*;
 
 /// The keys of a cipher in this mode: the round keys for the data, and the key schedule for what

@@ -2,7 +2,7 @@
 
 ghost use Rattle.std.specs.Prelude.{◌≡◌, ◌+◌, ◌*◌, ◌/◌, ◌%◌, ◌<◌, ◌≤◌, List, ℕ, ◌++◌, length};
 ghost use Rattle.std.specs.Prelude.{take, drop, Some, None, if◌then◌else◌, true};
-ghost use Rattle.luks_aes_batch.specs.RoundKeys.{IsBatchKey};
+ghost use Rattle.luks_aes.specs.RoundKeys.{IsBatchKey};
 ghost use Rattle.luks_cipher.specs.Expanded.{AreXtsKeys};
 ghost use Rattle.luks_cipher.specs.Xts.{data_key, doubled, tweak_of, block_at, joined};
 ghost use Rattle.luks_cipher.specs.Xts.{block_encrypted, block_decrypted, xts_encrypted};
@@ -12,8 +12,7 @@ ghost use Rattle.luks_aes.specs.Bytes.{IsBytes};
 use crate::block::{batch_size, block_of, xor_vector};
 use crate::mode::Mode;
 use crate::units::UnitKeys;
-use luks_aes::AesKey;
-use luks_aes_batch::{BatchKey, RoundKeys};
+use luks_aes::{AesKey, BatchKey, RoundKeys};
 use std::marker::Model;
 use std::simd::prelude::*;
 

@@ -1,6 +1,6 @@
 //! The ciphers of the tables: a key and its use.
 
-use luks_aes_batch::BatchKey;
+use luks_aes::BatchKey;
 use luks_cipher::cbc::{decrypt_chain, encrypt_chain};
 use luks_cipher::{AesKey, Mode, SectorCipher, XtsKey};
 use std::process::Abort;

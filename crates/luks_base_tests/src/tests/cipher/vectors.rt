@@ -6,7 +6,7 @@ use super::cipher::Cipher;
 use super::mode_vectors::{CHAINS, DECRYPTED, DIGESTS, SECTORS, WORKED};
 use super::xts_vectors::{LARGE_NUMBERS, NIST, SHORT};
 use super::{assert_in, bytes, counted};
-use luks_aes_batch::BatchKey;
+use luks_aes::BatchKey;
 use luks_cipher::cbc::decrypt_pair;
 use luks_cipher::{Mode, SectorCipher, XtsKey};
 use sha2::{Digest, Sha256};

@@ -1,6 +1,6 @@
 use Rattle.std.proofs.Common.{◌≡◌, ◌-◌, ◌*◌, ◌%◌, ◌≤◌, ℕ, List, drop}
 use Rattle.luks_aes.specs.Aes.{decrypted}
-use Rattle.luks_aes_batch.specs.RoundKeys.{IsBatchKey}
+use Rattle.luks_aes.specs.RoundKeys.{IsBatchKey}
 use Rattle.luks_cipher.specs.Xts.{block_xor}
 use Rattle.luks_cipher.specs.Cbc.{block_before}
 use Rattle.luks_cipher.proofs.UnitLemmas.{IsProgress}

@@ -1,5 +1,5 @@
 use Rattle.std.proofs.Common.{◌≡◌, ◌-◌, ◌%◌, ◌≤◌, ℕ, List}
-use Rattle.luks_aes_batch.specs.RoundKeys.{IsBatchKey}
+use Rattle.luks_aes.specs.RoundKeys.{IsBatchKey}
 use Rattle.luks_cipher.specs.Xts.{block_decrypted, data_key, tweak_after}
 use Rattle.luks_cipher.proofs.UnitLemmas.{IsProgress}
 use Rattle.luks_cipher.proofs.xts.decrypt_batches.Given as goal
