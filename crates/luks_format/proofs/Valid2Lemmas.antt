@@ -1,9 +1,9 @@
 -- Properties of a LUKS2 header that fits or is valid, in an image and in its loaded start.
 use Rattle.std.proofs.lemmas.Grind.{common_steps}
 use Rattle.std.proofs.Common.{◌≡◌, ◌∙◌, ◌==◌, ◌||◌, ℕ, ◌+◌, ◌<◌, ◌≤◌, List, Some, Bool, true, false, ap}
-use Rattle.std.proofs.Common.{refl, length, max, arith, [], ◌∷◌, ◌++◌}
+use Rattle.std.proofs.Common.{refl, length, max, arith, ◌&&◌, [], ◌∷◌, ◌++◌}
 use Rattle.std.proofs.Common.{length-append, length-drop}
-use Rattle.std.specs.Prelude.{not}
+use Rattle.std.specs.Prelude.{filter, map, nat_lt, not}
 use Rattle.std.specs.List.{list_any, find}
 use Rattle.std.proofs.lemmas.Bool.{and_parts, cases_lt, leb-true, eqb-true, le-leb, lt-leb, ne_eqb}
 use Rattle.std.proofs.lemmas.Bool.Decides.{nat_tests}
@@ -132,6 +132,45 @@ module _ (loaded more image : List ℕ) (is : image ≡ loaded ++ more) where
           at_more offset (size_at loaded offset) end,
         ) refl
     by false fit = rw (fits_more offset there, fit) refl
+
+-- ---- how far the search for a secondary header reads, without a walk over the offsets
+
+-- the maximum of some numbers
+abbrev pub max_of : List ℕ → ℕ
+max_of [] = 0
+max_of (number ∷ numbers) = max number (max_of numbers)
+
+module _ (valid : ℕ → Bool) (probe : ℕ → ℕ) where
+  -- no lower one of the nine offsets has a valid header
+  abbrev pub tried : ℕ → Bool
+  tried offset = not (list_any (λ other. nat_lt other offset && valid other) sizes)
+
+  -- the walk reads as far as the offsets that are tried
+  abbrev pub IsOne : Type 0
+  IsOne = furthest valid probe sizes ≡ max_of (map probe (filter tried sizes))
+
+  -- for each offset that is the first valid one, and for none
+  one_by : (a b c d e f g h i : Bool) → valid 16384 ≡ a → valid 32768 ≡ b → valid 65536 ≡ c → valid 131072 ≡ d
+      → valid 262144 ≡ e → valid 524288 ≡ f → valid 1048576 ≡ g → valid 2097152 ≡ h → valid 4194304 ≡ i → IsOne
+  unfolding sizes furthest
+  one_by true _ _ _ _ _ _ _ _ a _ _ _ _ _ _ _ _ = rw a refl
+  one_by false true _ _ _ _ _ _ _ a b _ _ _ _ _ _ _ = rw (a, b) refl
+  one_by false false true _ _ _ _ _ _ a b c _ _ _ _ _ _ = rw (a, b, c) refl
+  one_by false false false true _ _ _ _ _ a b c d _ _ _ _ _ = rw (a, b, c, d) refl
+  one_by false false false false true _ _ _ _ a b c d e _ _ _ _ = rw (a, b, c, d, e) refl
+  one_by false false false false false true _ _ _ a b c d e f _ _ _ = rw (a, b, c, d, e, f) refl
+  one_by false false false false false false true _ _ a b c d e f g _ _ = rw (a, b, c, d, e, f, g) refl
+  one_by false false false false false false false true _ a b c d e f g h _ = rw (a, b, c, d, e, f, g, h) refl
+  one_by false false false false false false false false true a b c d e f g h i = rw (a, b, c, d, e, f, g, h, i) refl
+  one_by false false false false false false false false false a b c d e f g h i = rw (a, b, c, d, e, f, g, h, i) refl
+
+  pub are_one : IsOne
+  are_one = grind (arith, common_steps, one_by)
+
+-- the number of bytes that the search reads is the maximum over the offsets that it tries
+pub search_len_is : (image : List ℕ) → furthest (is_valid image) (probe_end image) sizes
+    ≡ max_of (map (probe_end image) (filter (tried (is_valid image) (probe_end image)) sizes))
+search_len_is image = are_one (is_valid image) (probe_end image)
 
 -- ---- the search for a secondary header, offset by offset
 

@@ -75,8 +75,8 @@ header2_at image role offset =
       detached = false;
     }) (checksum_hash_in binary)
 
--- the LUKS2 header of an image, if it has one. If the primary one is not valid, it is the header at the lowest of the nine
--- offsets that has a valid one. Otherwise it is the secondary one right after the primary, if that is valid with a
+-- the LUKS2 header of an image, if it has one. If the primary one is not valid, it is the header at the lowest of the
+-- nine offsets that has a valid one. Otherwise it is the secondary one right after the primary, if that is valid with a
 -- higher sequence number, and the primary if not
 unfoldable pub chosen2_of : List ℕ → Option Header2
 chosen2_of image =
