@@ -51,7 +51,7 @@ library_limits = record {
 abbrev pub library_can_try : Header → ℕ → Bool
 library_can_try header number =
     unwrap_or (option_map is_kind_usable (option_map verdict_kind_of
-        (verdict_within header library_limits number))) false
+    (verdict_within header library_limits number))) false
 
 -- the key slot of this number, if the header has it, with this verdict
 unfoldable pub slot_row : Header → ℕ → VerdictKind → Option SlotRow
@@ -66,7 +66,7 @@ slot_row (V2 header tree) number kind =
 unfoldable pub slot_rows : Header → ℕ → List SlotRow
 slot_rows header number =
     cons_option (option_and_then (slot_row header number) (option_map verdict_kind_of
-        (verdict_at header None number))) []
+    (verdict_at header None number))) []
 
 -- the digest of this number; that of LUKS1 is number 0
 unfoldable pub digest_rows : Header → ℕ → List DigestRow

@@ -153,7 +153,7 @@ cost_weaknesses minimum severity slot =
 unfoldable pub area_weaknesses : SlotRow → List WeakRow
 area_weaknesses slot =
     found_if (names_sha1 slot.hash || names_sha1 slot.af_hash) (by_name BrokenHash (Slot slot.number) Low
-        (sha1_of slot))
+    (sha1_of slot))
     ++ cipher_weaknesses (Slot slot.number) slot.mode slot.area_cipher
     ++ found_if (is_short slot.mode (unwrap_or slot.area_key_bytes 0))
     (key_weakness (Slot slot.number) slot.mode slot.area_key_bytes)

@@ -88,7 +88,7 @@ module _ (location : HeaderLocation) (slots : AllowedSlots) (image pass : List �
       (runs_at AnyPromptness (AbortedOpening location slots image) _ message _ _
       (λ consumed n any. prompt_memory location slots image message consumed n (λ is. inr (inr u.there)))
       (λ consumed output done. done) (runs_printed (slot_outcome pass segment opened (length loaded))
-          (ConsumedExactly image i)
+      (ConsumedExactly image i)
       (ConsumedExactly pass s) w w' message u.input_consumed refl u.secret_consumed printed))
 
 -- writing the line about the key slot ends with one of these messages, and reads nothing

@@ -155,7 +155,7 @@ module _ (image : List ℕ) (header : Header2) where
   unfolding chosen2_of
   choice_with_primary_at valid is =
       by (is_valid image (size_at image 0)) (nat_lt (sequence_at image 0) (sequence_at image
-          (size_at image 0))) refl refl
+      (size_at image 0))) refl refl
     where
       by : (both later : Bool) → is_valid image (size_at image 0) ≡ both
           → nat_lt (sequence_at image 0) (sequence_at image (size_at image 0)) ≡ later
@@ -184,7 +184,7 @@ module _ (image : List ℕ) (header : Header2) where
     by true e = choice_with_primary_at e is
     by false e =
         option_and_then_some (header2_at image Secondary) (find (is_valid image) sizes) header (sym
-            (chosen_other image e) ∙ is)
+        (chosen_other image e) ∙ is)
         (λ offset least made. (offset, search_result_at e offset least made))
 
 -- a header is read as an attached one

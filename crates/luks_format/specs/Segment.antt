@@ -14,7 +14,12 @@ use Rattle.luks_format.specs.declared.segment.Segment.{Segment}
 abbrev pub segment_from : Option ℕ → Option (Option ℕ) → Option ℕ → Option SectorSize → Option Mode → Option Segment
 segment_from (Some offset) (Some size) (Some iv_tweak) (Some sector_size) (Some mode) =
     option_map (λ is. record {
-      offset = offset; size = size; iv_tweak = iv_tweak; sector_size = sector_size; mode = mode; whole_sectors = is;
+      offset = offset;
+      size = size;
+      iv_tweak = iv_tweak;
+      sector_size = sector_size;
+      mode = mode;
+      whole_sectors = is;
     }) (evidence_if (has_whole_sectors size sector_size))
 segment_from _ _ _ _ _ = None
 

@@ -230,7 +230,7 @@ module _ (header : Header) (named : Option ℕ) (limits : Limits) (order : Order
         order.entries
     All-volume_key = λ k d below.
         let known : IsKnown segment limits
-            (slice_index_or order.entries k d).slot = each_known k d below in known.volume_key
+        (slice_index_or order.entries k d).slot = each_known k d below in known.volume_key
 
 -- ---- for callers
 

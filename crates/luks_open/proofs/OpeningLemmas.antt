@@ -208,8 +208,13 @@ module _ (location : HeaderLocation) (slots : AllowedSlots) (image pass : List �
         × ConsumedUnless (aborts_opening (Passphrase fault)) pass secret' opening.secret_consumed
     opens_unread secret' TooLong stop =
         rw (opening_found_is ∙ found_long (described volume) image pass stop.0) (
-          record { answer = λ never. refl; memory = λ is. tt; argon2 =
-              λ slot memory is. tt; consumed = found.consumed },
+          record {
+            answer = λ never. refl;
+            memory = λ is. tt;
+            argon2 =
+                λ slot memory is. tt;
+            consumed = found.consumed;
+          },
           stop.1,
         )
     opens_unread secret' PassphraseMemory stop =

@@ -124,7 +124,7 @@ module _ (header : Header) (limits : Limits) (none : is_none limits.argon2 ≡ t
       (first_other (form_reasons limits slot) (refl, (refl, (refl, (refl, (refl, (refl, tt))))))) (λ form.
       first_of_two (first_match (material_reasons (payload_mode2_of tree bounds) parts)) _
       (first_other (material_reasons (payload_mode2_of tree bounds) parts) (refl, (refl, (refl, (refl, tt)))))
-          (λ material.
+      (λ material.
       first_of_two (derivation_refusal limits parts.derivation) _
       (other_derivation (kdf2_of slot) (allowed limits slot form)) (λ derivation.
       first_other (place_reasons tree bounds limits.max_iterations number parts) (refl, (refl, tt))))))

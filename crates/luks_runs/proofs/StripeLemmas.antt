@@ -181,8 +181,7 @@ module _ (h : Hash) (count : ℕ) (key random : List ℕ) (some : 1 ≤ length k
         let may = may_forward stop.0 stop.1 (omega (arith, stop.2, stop.4)) there (omega (arith, stop.2))
         (omega (arith, stop.3)) in
         aborted_at (length key) 0 stop.1 (stop.0 * length key) may.fits
-        (ap (λ q. q * length key) (sym (div-eq_of_lt-le (length key) stop.3 stop.4))) key_whole (omega arith) may.within
-            (
+        (ap (λ q. q * length key) (sym (div-eq_of_lt-le (length key) stop.3 stop.4))) key_whole (omega arith) may.within (
           consumption,
           refl,
           stop.5.consumption,

@@ -54,7 +54,7 @@ module _ (location : HeaderLocation) (limit : Option ℕ) (image key : List ℕ)
 -- no header was read: the bytes that are read for it were consumed, or no more than these
 consumed_unread : (image : List ℕ) (left : Option (List ℕ)) (ends ends' : ℕ) (fault : HeaderFault)
     → ReadsNoHeader image left ends ends' fault → ConsumesToCheck {T = KeyCheck × Segment} image (Err
-        (HeaderNotRead fault)) left
+    (HeaderNotRead fault)) left
 consumed_unread image left ends ends' HeaderRead stop = stop.0
 consumed_unread image left ends ends' HeaderMemory stop = memory_below image left ends ends' stop
 consumed_unread image left ends ends' fault stop = stop.1.0

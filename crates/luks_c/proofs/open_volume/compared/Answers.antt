@@ -99,8 +99,11 @@ module _ (c : LuksrdOptions) (header key : List ℕ) (check : KeyCheck) (segment
       → MatchOption found (check_code check ≢ 0) (λ s. (check ≡ Matches) × (s ≡ segment))
       → MatchOption found (code ≢ 0) (λ s. (code ≡ 0) × IsOfKey c header key s)
   with_segment None other = λ same. other (sym is ∙ same)
-  with_segment (Some s) (matches, same) = (is ∙ ap check_code matches, subst (IsOfKey c header key) (sym same)
-      (of_key matches))
+  with_segment (Some s) (matches, same) = (
+    is ∙ ap check_code matches,
+    subst (IsOfKey c header key) (sym same)
+        (of_key matches),
+  )
 
 pub returns-in-Ok-clause-segment : goal.returns-in-Ok-clause-segment
 returns-in-Ok-clause-segment c =

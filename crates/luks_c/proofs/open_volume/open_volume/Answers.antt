@@ -32,7 +32,7 @@ returns-in-Ok c =
         filled = rw (c.segment.ensures, c.slot.ensures, c.key.ensures) at c.store.ensures;
         opens = λ image begins.
             ap (λ (o : VolumeOpening). o.result) (opening_decided c.in-Some.options.location
-                (allowed_by c.in-Some.options)
+            (allowed_by c.in-Some.options)
             image c.args.header.now c.args.passphrase.now begins) ∙ answers.opens.opens;
         says = c.answer_message.ensures.message;
       };
@@ -59,7 +59,7 @@ returns-in-Err c =
         read = never_failed _ c.in-Err.ensures.reads.1.failures;
         refuses = λ never image begins.
             ap (λ (o : VolumeOpening). o.result) (opening_decided c.in-Some.options.location
-                (allowed_by c.in-Some.options)
+            (allowed_by c.in-Some.options)
             image c.args.header.now c.args.passphrase.now begins) ∙ answers.refuses.refuses never;
       };
       cleared = λ some. c.clear-in-Err.ensures;

@@ -96,7 +96,7 @@ returns-clause-costs g c known is =
     let found = rw c.allowed_by.ensures at (c.in_ok-found.ensures.found.found known is) in
     let then = c.in_ok-unlocked.ensures in
     costs_found _ _ (is_volume _ _ known c.args.pass.now _ _ found) known c.args.pass.now
-        (Ok c.in_ok-unlocked.unlocked) _ _
+    (Ok c.in_ok-unlocked.unlocked) _ _
     (costs_of_trials (described c.in_ok-found.found) known _ c.args.pass.now (λ enough.
     let whole = loaded_as _ _ known c.args.pass.now _ _ found _ _ _ then.run enough (omega arith) in
     (_, whole.1, omega (arith, enough, whole.0))) _ _ (Ok c.in_ok-unlocked.unlocked) then.tries then.work then.filled
@@ -108,7 +108,7 @@ returns-in_err-unlocked-clause-costs g c =
     rw (given_error _ _ c.from_residual-in_err-unlocked.ensures.1) (λ known is.
     let found = rw c.allowed_by.ensures at (c.in_ok-found.ensures.found.found known is) in
     costs_found _ _ (is_volume _ _ known c.args.pass.now _ _ found) known c.args.pass.now
-        (Err c.in_err-unlocked.field-0.0)
+    (Err c.in_err-unlocked.field-0.0)
     _ _ (costs_of_trials (described c.in_ok-found.found) known _ c.args.pass.now (λ enough.
     let whole = loaded_as _ _ known c.args.pass.now _ _ found _ _ _ then.run enough (omega arith) in
     (_, whole.1, omega (arith, enough, whole.0))) _ _ (Err c.in_err-unlocked.field-0.0) then.tries then.work then.filled

@@ -45,7 +45,7 @@ returns-in_err-volume-clause-work g c =
 pub returns-in_err-volume-clause-without_argon2 : goal.returns-in_err-volume-clause-without_argon2
 returns-in_err-volume-clause-without_argon2 g c =
     rw (given_error _ _ c.from_residual.ensures.1) (c.in_err-volume.ensures.without_argon2
-        (rw c.pbkdf2_alone.ensures refl))
+    (rw c.pbkdf2_alone.ensures refl))
 
 pub returns-in_err-volume-clause-counts : goal.returns-in_err-volume-clause-counts
 returns-in_err-volume-clause-counts g c =
