@@ -1,24 +1,19 @@
 -- Two data units of 512 bytes that are decrypted at once, and data units that follow one another.
 use Rattle.std.proofs.Common.{◌≡◌, ℕ, ◌+◌, ◌*◌, ◌/◌, ◌<◌, List, ◌++◌, length, take, drop, arith, refl, sym, ◌≤◌}
-use Rattle.std.proofs.Common.{◌^◌, ◌%◌, [], append_assoc, append-nil, ap, length-append, length-drop, ◌∙◌}
+use Rattle.std.proofs.Common.{◌^◌, ◌%◌, ap, length-append, length-drop, ◌∙◌}
 use Rattle.std.proofs.lemmas.List.{length-take, take_all, take_at, drop_at, drop-drop, drop-take}
-use Rattle.std.proofs.lemmas.List.{take-take, take-append-le, drop_all}
+use Rattle.std.proofs.lemmas.List.{take-take, take-append-le}
 use Rattle.std.proofs.lemmas.Slice.{take-put_mid}
 use borrow.Rule.Slice.PartMut.{mid_of, put_mid, same_len_mid}
 use Rattle.luks_cipher.specs.Xts.{block_at, block_decrypted, joined, tweak_after, tweak_of, xts_decrypted}
-use Rattle.luks_cipher.specs.Sector.{sector_decrypted, units_decrypted}
+use Rattle.luks_cipher.specs.Sector.{sector_decrypted}
 use Rattle.luks_cipher.specs.declared.mode.Mode.{Mode}
 use Rattle.luks_cipher.specs.Cbc.{cbc_decrypted}
-use Rattle.luks_cipher.proofs.UnitLemmas.{block_of_part, from_blocks, joined_more, tweaks_of_unit}
+use Rattle.luks_cipher.proofs.UnitLemmas.{IsDoneBefore, block_of_part, block_of_rest, done_many, done_more}
+use Rattle.luks_cipher.proofs.UnitLemmas.{from_blocks, joined_more, tweaks_of_unit}
 use Rattle.luks_cipher.proofs.UnitsUndone.{joined_same}
 
 -- ---- two data units of 512 bytes
-
--- block j of the second one
-pub second_block : (units : List ℕ) (j : ℕ) → block_at (drop 512 units) j ≡ block_at units (32 + j)
-second_block units j =
-    let there : 512 + 16 * j ≡ 16 * (32 + j) = omega arith in
-    ap (take 16) (drop-drop (16 * j) 512 units ∙ ap (λ k. drop k units) there)
 
 -- the blocks of both are joined, where those of the first are f and those of the second are g
 pub both_joined : (f g : ℕ → List ℕ) (units : List ℕ) → length units ≡ 1024
@@ -43,7 +38,7 @@ both_done g t u units new own long same each first second =
     let back : 32 ≡ length (drop 512 units) / 16 = omega (arith, length-drop 512 units) in
     both_joined f h new same
     (λ j low. each j (omega arith) ∙ (λ i. g (first j low i) (sym (block_of_part units j 512 (omega arith)) i)))
-    (λ j low. each (32 + j) (omega arith) ∙ (λ i. g (second j low i) (sym (second_block units j) i)))
+    (λ j low. each (32 + j) (omega arith) ∙ (λ i. g (second j low i) (sym (block_of_rest units 32 j) i)))
     ∙ (λ i. joined f (front i) ++ joined h (back i))
 
 -- a block of two lists of 512 bytes, joined
@@ -52,7 +47,7 @@ first_of_both a b j long low =
     sym (block_of_part (a ++ b) j 512 (omega arith)) ∙ ap (λ x. block_at x j) (take_at a b 512 long)
 
 pub second_of_both : (a b : List ℕ) (j : ℕ) → length a ≡ 512 → block_at (a ++ b) (32 + j) ≡ block_at b j
-second_of_both a b j long = sym (second_block (a ++ b) j) ∙ ap (λ x. block_at x j) (drop_at a b 512 long)
+second_of_both a b j long = sym (block_of_rest (a ++ b) 32 j) ∙ ap (λ x. block_at x j) (drop_at a b 512 long)
 
 -- ---- the chains of two data units of 512 bytes
 
@@ -99,81 +94,33 @@ unit_in mode key first size units i =
     sector_decrypted mode key ((first + i * (size / 512)) % 2 ^ 64) (take size (drop (i * size) units))
 
 -- the units before number n are decrypted, and the others are as they were
-pub record AreDecrypted (mode : Mode) (key : List ℕ) (first size : ℕ) (old now : List ℕ) (n : ℕ) : Type 0 where
-  pub value : now ≡ joined (unit_in mode key first size old) n ++ drop (n * size) old
+abbrev pub AreDecrypted : Mode → List ℕ → ℕ → ℕ → List ℕ → List ℕ → ℕ → Type 0
+AreDecrypted mode key first size old now n = IsDoneBefore size (unit_in mode key first size old) old now n
 
-module _ (mode : Mode) (key : List ℕ) (first size : ℕ) (old : List ℕ) where
-  pub none_decrypted : AreDecrypted mode key first size old old 0
-  unfolding joined
-  none_decrypted = record { value = let none : 0 * size ≡ 0 = omega arith in rw none refl }
-
-  module _ (now : List ℕ) (j : ℕ) (before : AreDecrypted mode key first size old now j) (same : length now ≡ length old)
-      (within : j * size ≤ length old) where
-    decrypted_len : length (joined (unit_in mode key first size old) j) ≡ j * size
-    decrypted_len =
-        let front = joined (unit_in mode key first size old) j in
-        let rest = drop (j * size) old in
-        omega (arith, ap length before.value, length-append front rest, length-drop (j * size) old)
-
-    -- unit j is as it was, and those after it
-    pub left : drop (j * size) now ≡ drop (j * size) old
-    left = rw before.value
-        (drop_at (joined (unit_in mode key first size old) j) (drop (j * size) old) (j * size) decrypted_len)
-
-    front : take (j * size) now ≡ joined (unit_in mode key first size old) j
-    front = rw before.value
-        (take_at (joined (unit_in mode key first size old) j) (drop (j * size) old) (j * size) decrypted_len)
-
-    -- n more units are decrypted at once
-    pub more_decrypted : (piece : List ℕ) (n m a k : ℕ) → m ≡ j + n → a ≡ j * size → a + k ≡ m * size
-        → length piece ≡ k → piece ≡ joined (λ i. unit_in mode key first size old (j + i)) n
-        → AreDecrypted mode key first size old (put_mid a k now piece) m
-    more_decrypted piece n m a k next here after long is =
-        let f = unit_in mode key first size old in
-        let prefix : take a now ≡ joined f j = ap (λ x. take x now) here ∙ front in
-        let back : drop a now ≡ drop a old = rw here left in
-        let rest : drop k (drop a now) ≡ drop (m * size) old =
-        ap (drop k) back ∙ drop-drop k a old ∙ ap (λ i. drop i old) after in
-        record {
-          value = (λ i. prefix i ++ (is i ++ rest i))
-              ∙ sym (append_assoc (joined f j) (joined (λ i. f (j + i)) n) (drop (m * size) old))
-              ∙ ap (λ x. x ++ drop (m * size) old) (sym (joined_more f j n) ∙ ap (joined f) (sym next));
-        }
-
-    -- one more unit is decrypted
-    pub one_decrypted : (new : List ℕ) (number m a k : ℕ) → m ≡ j + 1 → a ≡ j * size → k ≡ size
-        → number ≡ (first + j * (size / 512)) % 2 ^ 64 → length new ≡ k
-        → new ≡ sector_decrypted mode key number (take k (drop a now))
-        → AreDecrypted mode key first size old (put_mid a k now new) m
-    unfolding joined
-    one_decrypted new number m a k next here wide is_number long is =
-        let f = unit_in mode key first size old in
-        let only : j ≡ j + 0 = omega arith in
-        let back : drop a now ≡ drop (j * size) old = rw here left in
-        let after : a + k ≡ m * size = rw (next, here, wide) (omega arith) in
-        more_decrypted new 1 m a k next here after long
-        (is ∙ (λ i. sector_decrypted mode key (is_number i) (take (wide i) (back i))) ∙ ap f only)
-
-  -- all units are decrypted
-  pub all_decrypted : (now : List ℕ) (n : ℕ) → AreDecrypted mode key first size old now n → n * size ≡ length old
-      → n ≡ length old / size → now ≡ units_decrypted mode key first size old
-  unfolding units_decrypted
-  all_decrypted now n before whole count =
-      let nothing : drop (n * size) old ≡ [] = drop_all (n * size) old (omega arith) in
-      before.value ∙ rw (nothing, append-nil, count) refl
+-- one more unit is decrypted
+pub one_decrypted : (mode : Mode) (key : List ℕ) (first size : ℕ) (old now new : List ℕ) (j number m a k : ℕ)
+    → AreDecrypted mode key first size old now j → m ≡ j + 1 → a ≡ size * j → k ≡ size
+    → number ≡ (first + j * (size / 512)) % 2 ^ 64 → size * (j + 1) ≤ length now → length new ≡ size
+    → new ≡ sector_decrypted mode key number (take k (drop a now))
+    → AreDecrypted mode key first size old (put_mid a k now new) m
+one_decrypted mode key first size old now new j number m a k before next here wide is_number within long is =
+    let there : size * j ≡ j * size = omega arith in
+    let back : drop a now ≡ drop (j * size) old = rw here (before.left ∙ ap (λ i. drop i old) there) in
+    done_more size (unit_in mode key first size old) old now new a k j m next here wide before within long
+    (is ∙ (λ i. sector_decrypted mode key (is_number i) (take (wide i) (back i))))
 
 -- two more units of 512 bytes are decrypted
 pub two_decrypted : (mode : Mode) (key : List ℕ) (first : ℕ) (old now new : List ℕ) (i number k : ℕ)
-    → AreDecrypted mode key first 512 old now (2 * i) → length now ≡ length old → 1024 * i + 1024 ≤ length old
+    → AreDecrypted mode key first 512 old now (2 * i) → 1024 * i + 1024 ≤ length now
     → number ≡ (first + 2 * i) % 2 ^ 64 → k ≡ 1024 → length new ≡ k
     → new ≡ sector_decrypted mode key number (take 512 (take k (drop (1024 * i) now)))
     ++ sector_decrypted mode key ((number + 1) % 2 ^ 64) (drop 512 (take k (drop (1024 * i) now)))
     → AreDecrypted mode key first 512 old (put_mid (1024 * i) k now new) (2 * (i + 1))
 unfolding joined
-two_decrypted mode key first old now new i number k before same within is_number wide long is =
+two_decrypted mode key first old now new i number k before within is_number wide long is =
     let a = 1024 * i in
-    let here : a ≡ 2 * i * 512 = omega arith in
-    let back : drop a now ≡ drop a old = rw here (left mode key first 512 old now (2 * i) before same (omega arith)) in
+    let here : a ≡ 512 * (2 * i) = omega arith in
+    let back : drop a now ≡ drop a old = rw here before.left in
     let number_of_first : number ≡ (first + (2 * i + 0) * 1) % 2 ^ 64 = omega arith in
     let number_of_second : (number + 1) % 2 ^ 64 ≡ (first + (2 * i + 1) * 1) % 2 ^ 64 = omega arith in
     let first_at : a ≡ (2 * i + 0) * 512 = omega arith in
@@ -184,7 +131,7 @@ two_decrypted mode key first old now new i number k before same within is_number
     let second_unit : drop 512 (take k (drop a now)) ≡ take 512 (drop ((2 * i + 1) * 512) old) =
     ap (λ x. drop 512 (take x (drop a now))) wide ∙ drop-take 512 512 (drop a now)
     ∙ ap (take 512) (ap (drop 512) back ∙ drop-drop 512 a old ∙ ap (λ x. drop x old) second_at) in
-    more_decrypted mode key first 512 old now (2 * i) before same (omega arith) new 2 (2 * (i + 1)) a k (omega arith)
-    here (omega arith) long
+    done_many 512 (unit_in mode key first 512 old) old now new a k (2 * i) 2 (2 * (i + 1)) (omega arith) here
+    (omega arith) before (omega arith) (omega arith)
     (is ∙ (λ j. sector_decrypted mode key (number_of_first j) (first_unit j)
     ++ sector_decrypted mode key (number_of_second j) (second_unit j)))

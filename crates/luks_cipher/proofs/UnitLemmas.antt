@@ -1,5 +1,5 @@
 -- The halves of a key, tweaks, and data units that are transformed block by block or in batches of 32 blocks.
-use Rattle.std.proofs.Common.{◌≡◌, ℕ, zero, suc, ◌+◌, ◌-◌, ◌*◌, ◌/◌, ◌<◌, ◌≤◌, List, [], ◌∷◌, ◌++◌, length}
+use Rattle.std.proofs.Common.{◌≡◌, ℕ, zero, suc, ◌+◌, ◌-◌, ◌*◌, ◌/◌, ◌<◌, ◌≤◌, List, ◌++◌, length}
 use Rattle.std.proofs.Common.{take, drop, arith, length-append, append_assoc, refl, sym, ap, ◌∙◌, inl, inr}
 use Rattle.std.proofs.Common.{slice_index, length-drop, length-take, replicate, subst}
 use Rattle.std.proofs.Math.ListN.{get_or-eq_default}
@@ -62,14 +62,14 @@ piece_xor piece vector long same =
 
 -- ---- data units that are transformed block by block
 
--- the first j blocks are done, and the others are unchanged
-pub record IsDoneBefore (f : ℕ → List ℕ) (old new : List ℕ) (j : ℕ) : Type 0 where
-  pub done : take (16 * j) new ≡ joined f j
-  pub left : drop (16 * j) new ≡ drop (16 * j) old
+-- the first j pieces of `size` bytes are done, and the others are unchanged
+pub record IsDoneBefore (size : ℕ) (f : ℕ → List ℕ) (old new : List ℕ) (j : ℕ) : Type 0 where
+  pub done : take (size * j) new ≡ joined f j
+  pub left : drop (size * j) new ≡ drop (size * j) old
 
-pub done_none : (f : ℕ → List ℕ) (old : List ℕ) → IsDoneBefore f old old 0
+pub done_none : (size : ℕ) (f : ℕ → List ℕ) (old : List ℕ) → IsDoneBefore size f old old 0
 unfolding joined
-done_none f old = record { done = refl; left = refl }
+done_none size f old = let none : size * 0 ≡ 0 = omega arith in record { done = rw none refl; left = refl }
 
 pub joined_more : (f : ℕ → List ℕ) (a b : ℕ) → joined f (a + b) ≡ joined f a ++ joined (λ n. f (a + n)) b
 unfolding joined
@@ -81,41 +81,43 @@ joined_more f a (suc b) =
     rw next (ap (λ x. x ++ f (a + b)) (joined_more f a b) ∙ append_assoc (joined f a) (joined (λ n. f (a + n)) b)
     (f (a + b)))
 
--- what is left after n more blocks were written
-pub left_more : (old new piece : List ℕ) (at k j n : ℕ) → at ≡ 16 * j → k ≡ 16 * n
-    → drop (16 * j) new ≡ drop (16 * j) old → 16 * j + 16 * n ≤ length new → length piece ≡ 16 * n
-    → drop (16 * (j + n)) (put_mid at k new piece) ≡ drop (16 * (j + n)) old
-left_more old new piece at k j n index size left capacity long =
-    let next = 16 * (j + n) in
-    let split : next ≡ 16 * j + 16 * n = omega arith in
+-- what is left after n more pieces were written
+pub left_more : (size : ℕ) (old new piece : List ℕ) (at k j n : ℕ) → at ≡ size * j → k ≡ size * n
+    → drop (size * j) new ≡ drop (size * j) old → size * (j + n) ≤ length new → length piece ≡ size * n
+    → drop (size * (j + n)) (put_mid at k new piece) ≡ drop (size * (j + n)) old
+left_more size old new piece at k j n index wide left capacity long =
+    let next = size * (j + n) in
+    let split : next ≡ size * j + size * n = omega arith in
     let rest : drop next new ≡ drop next old =
-    rw (split, ← drop-drop (16 * n) (16 * j) new, ← drop-drop (16 * n) (16 * j) old) (ap (drop (16 * n)) left) in
+    rw (split, ← drop-drop (size * n) (size * j) new, ← drop-drop (size * n) (size * j) old)
+    (ap (drop (size * n)) left) in
     drop-put_mid at k new piece next (omega arith) (omega arith) (omega arith) ∙ rest
 
--- a data unit with n more blocks done at once
-done_many : (f : ℕ → List ℕ) (old new piece : List ℕ) (at k j n : ℕ) → at ≡ 16 * j → k ≡ 16 * n
-    → IsDoneBefore f old new j → 16 * j + 16 * n ≤ length new → length piece ≡ 16 * n
-    → piece ≡ joined (λ m. f (j + m)) n → IsDoneBefore f old (put_mid at k new piece) (j + n)
-done_many f old new piece at k j n index size before capacity long is =
+-- n more pieces are done at once
+pub done_many : (size : ℕ) (f : ℕ → List ℕ) (old new piece : List ℕ) (at k j n m : ℕ) → m ≡ j + n → at ≡ size * j
+    → k ≡ size * n → IsDoneBefore size f old new j → size * (j + n) ≤ length new → length piece ≡ size * n
+    → piece ≡ joined (λ i. f (j + i)) n → IsDoneBefore size f old (put_mid at k new piece) m
+done_many size f old new piece at k j n m next index wide before capacity long is =
     let start : take at new ≡ joined f j = ap (λ i. take i new) index ∙ before.done in
-    record {
-      done = take-put_mid at k new piece (16 * (j + n)) (omega arith) (omega arith)
+    rw next (record {
+      done = take-put_mid at k new piece (size * (j + n)) (omega arith) (omega arith)
           ∙ (λ i. start i ++ is i) ∙ sym (joined_more f j n);
-      left = left_more old new piece at k j n index size before.left capacity long;
-    }
+      left = left_more size old new piece at k j n index wide before.left capacity long;
+    })
 
-pub done_more : (f : ℕ → List ℕ) (old new piece : List ℕ) (j : ℕ) → IsDoneBefore f old new j → 16 * j + 16 ≤ length new
-    → length piece ≡ 16 → piece ≡ f j → IsDoneBefore f old (put_mid (16 * j) (16 * j + 16 - 16 * j) new piece) (j + 1)
+-- one more piece is done
+pub done_more : (size : ℕ) (f : ℕ → List ℕ) (old new piece : List ℕ) (at k j m : ℕ) → m ≡ j + 1 → at ≡ size * j
+    → k ≡ size → IsDoneBefore size f old new j → size * (j + 1) ≤ length new → length piece ≡ size → piece ≡ f j
+    → IsDoneBefore size f old (put_mid at k new piece) m
 unfolding joined
-done_more f old new piece j before capacity size is =
+done_more size f old new piece at k j m next index wide before capacity long is =
     let here : j ≡ j + 0 = omega arith in
-    done_many f old new piece (16 * j) (16 * j + 16 - 16 * j) j 1 refl (omega arith) before (omega arith) (omega arith)
-    (is ∙ ap f here)
+    done_many size f old new piece at k j 1 m next index (omega arith) before capacity (omega arith) (is ∙ ap f here)
 
-pub done_all : (f : ℕ → List ℕ) (old new : List ℕ) (j n : ℕ) → IsDoneBefore f old new j → length new ≡ 16 * j → j ≡ n
-    → new ≡ joined f n
-done_all f old new j n before size at_end =
-    sym (take_all (16 * j) new (omega arith)) ∙ before.done ∙ ap (joined f) at_end
+pub done_all : (size : ℕ) (f : ℕ → List ℕ) (old new : List ℕ) (j n : ℕ) → IsDoneBefore size f old new j
+    → length new ≡ size * j → j ≡ n → new ≡ joined f n
+done_all size f old new j n before whole at_end =
+    sym (take_all (size * j) new (omega arith)) ∙ before.done ∙ ap (joined f) at_end
 
 -- the slice that the code reads is block j
 pub block_is : (old new : List ℕ) (j : ℕ) → drop (16 * j) new ≡ drop (16 * j) old
@@ -124,15 +126,6 @@ block_is old new j left =
     let size : 16 * j + 16 - 16 * j ≡ 16 = omega arith in
     rw (size, left) refl
 
--- one more block is done, from the block that the code reads and a value of its own, such as its tweak
-pub done_next : (g : List ℕ → List ℕ → List ℕ) (t : ℕ → List ℕ) (old new piece own : List ℕ) (j : ℕ)
-    → IsDoneBefore (λ j. g (t j) (block_at old j)) old new j → 16 * j + 16 ≤ length new → length piece ≡ 16
-    → own ≡ t j → piece ≡ g own (take (16 * j + 16 - 16 * j) (drop (16 * j) new))
-    → IsDoneBefore (λ j. g (t j) (block_at old j)) old (put_mid (16 * j) (16 * j + 16 - 16 * j) new piece) (j + 1)
-done_next g t old new piece own j before capacity size same is =
-    done_more (λ j. g (t j) (block_at old j)) old new piece j before capacity size
-    (is ∙ (λ i. g (same i) (block_is old new j before.left i)))
-
 -- ---- data units whose next block's own value is known
 
 -- a data unit of bytes whose first j blocks are done by g, from a value t of its own for each and from what it was, and
@@ -140,7 +133,7 @@ done_next g t old new piece own j before capacity size same is =
 pub record IsProgress (g : List ℕ → List ℕ → List ℕ) (t : ℕ → List ℕ) (old new own : List ℕ) (j : ℕ) : Type 0 where
   pub bytes : IsBytes old
   pub next : own ≡ t j
-  pub done : IsDoneBefore (λ j. g (t j) (block_at old j)) old new j
+  pub done : IsDoneBefore 16 (λ j. g (t j) (block_at old j)) old new j
 
 -- one more block is done
 pub progress_next : (g : List ℕ → List ℕ → List ℕ) (t : ℕ → List ℕ) (old new piece own next : List ℕ) (j : ℕ)
@@ -150,21 +143,31 @@ pub progress_next : (g : List ℕ → List ℕ → List ℕ) (t : ℕ → List �
 progress_next g t old new piece own next j before capacity size is is_next = record {
   bytes = before.bytes;
   next = is_next;
-  done = done_next g t old new piece own j before.done capacity size before.next is;
+  done = done_more 16 (λ j. g (t j) (block_at old j)) old new piece (16 * j) (16 * j + 16 - 16 * j) j (j + 1) refl refl
+      (omega arith) before.done (omega arith) size
+      (is ∙ (λ i. g (before.next i) (block_is old new j before.done.left i)));
 }
+
+-- a block of the first part of a list
+pub block_of_part : (xs : List ℕ) (n size : ℕ) → 16 * n + 16 ≤ size → block_at (take size xs) n ≡ block_at xs n
+block_of_part xs n size low =
+    let split : size ≡ 16 * n + (size - 16 * n) = omega arith in
+    ap (λ k. take 16 (drop (16 * n) (take k xs))) split
+    ∙ ap (take 16) (drop-take (16 * n) (size - 16 * n) xs)
+    ∙ take-take 16 (size - 16 * n) (drop (16 * n) xs) (omega arith)
+
+-- a block of what follows the first n blocks of a list
+pub block_of_rest : (xs : List ℕ) (n m : ℕ) → block_at (drop (16 * n) xs) m ≡ block_at xs (n + m)
+block_of_rest xs n m =
+    let there : 16 * n + 16 * m ≡ 16 * (n + m) = omega arith in
+    ap (take 16) (drop-drop (16 * m) (16 * n) xs ∙ ap (λ k. drop k xs) there)
 
 -- block m of the n blocks from block j on, as the code reads them
 pub batch_block : (old new : List ℕ) (j n : ℕ) → drop (16 * j) new ≡ drop (16 * j) old
     → (m : ℕ) → m < n → block_at (take (16 * j + 16 * n - 16 * j) (drop (16 * j) new)) m ≡ block_at old (j + m)
 batch_block old new j n left m low =
-    let size : 16 * j + 16 * n - 16 * j ≡ 16 * m + (16 * n - 16 * m) = omega arith in
-    let there : 16 * j + 16 * m ≡ 16 * (j + m) = omega arith in
-    ap (λ k. take 16 (drop (16 * m) (take k (drop (16 * j) new)))) size
-    ∙ ap (λ l. take 16 (drop (16 * m) (take (16 * m + (16 * n - 16 * m)) l))) left
-    ∙ ap (take 16) (drop-take (16 * m) (16 * n - 16 * m) (drop (16 * j) old))
-    ∙ take-take 16 (16 * n - 16 * m) (drop (16 * m) (drop (16 * j) old)) (omega arith)
-    ∙ ap (take 16) (drop-drop (16 * m) (16 * j) old)
-    ∙ ap (λ n. take 16 (drop n old)) there
+    block_of_part (drop (16 * j) new) m (16 * j + 16 * n - 16 * j) (omega arith)
+    ∙ ap (λ l. take 16 (drop (16 * m) l)) left ∙ block_of_rest old j m
 
 -- n blocks are done, from what the code reads; `after m` is the own value of the block m after the first of them
 pub progress_batch : (g : List ℕ → List ℕ → List ℕ) (t after : ℕ → List ℕ) (old new piece own next : List ℕ)
@@ -181,8 +184,8 @@ progress_batch g t after old new piece own next j n k before capacity long count
     record {
       bytes = before.bytes;
       next = is_next ∙ ap after count ∙ same n (omega arith);
-      done = done_many f old new piece (16 * j) (16 * j + 16 * n - 16 * j) j n refl (omega arith) before.done capacity
-          long (is ∙ ap (joined (λ m. g (after m) (block_at batch m))) count ∙ blocks);
+      done = done_many 16 f old new piece (16 * j) (16 * j + 16 * n - 16 * j) j n (j + n) refl refl (omega arith)
+          before.done (omega arith) long (is ∙ ap (joined (λ m. g (after m) (block_at batch m))) count ∙ blocks);
     }
 
 -- a data unit is joined from its blocks
@@ -258,34 +261,18 @@ put_after before batch old first rest capacity long is also =
     ++ (ap (λ x. batch ++ x) (drop-drop (length whole - 16) 16 whole ∙ drop_all _ whole (omega arith))
     ∙ append-nil batch) i)
 
--- a block of the first part of a list
-pub block_of_part : (xs : List ℕ) (n size : ℕ) → 16 * n + 16 ≤ size → block_at (take size xs) n ≡ block_at xs n
-block_of_part xs n size low =
-    let split : size ≡ 16 * n + (size - 16 * n) = omega arith in
-    ap (λ k. take 16 (drop (16 * n) (take k xs))) split
-    ∙ ap (take 16) (drop-take (16 * n) (size - 16 * n) xs)
-    ∙ take-take 16 (size - 16 * n) (drop (16 * n) xs) (omega arith)
-
 -- the first n blocks are done at once
 pub progress_first : (g : List ℕ → List ℕ → List ℕ) (t after : ℕ → List ℕ) (unit piece own : List ℕ) (n k : ℕ)
-    → IsBytes unit → length piece ≡ 16 * n → k ≡ n
+    → IsBytes unit → 16 * n ≤ length unit → length piece ≡ 16 * n → k ≡ n
     → piece ≡ joined (λ m. g (after m) (block_at (take (16 * n) unit) m)) k
     → own ≡ after k → ((m : ℕ) → m ≤ n → after m ≡ t m)
     → IsProgress g t unit (piece ++ drop (16 * n) unit) own n
-progress_first g t after unit piece own n k bytes long count is is_own same =
-    let part : ℕ → List ℕ = λ m. g (after m) (block_at (take (16 * n) unit) m) in
-    let f : ℕ → List ℕ = λ m. g (t m) (block_at unit m) in
-    let blocks : joined part n ≡ joined f n =
-    joined_same part f n
-    (λ m low i. g (same m (omega arith) i) (block_of_part unit m (16 * n) (omega arith) i)) in
-    record {
-      bytes = bytes;
-      next = is_own ∙ ap after count ∙ same n (omega arith);
-      done = record {
-        done = take_at piece (drop (16 * n) unit) (16 * n) long ∙ is ∙ ap (joined part) count ∙ blocks;
-        left = drop_at piece (drop (16 * n) unit) (16 * n) long;
-      };
-    }
+progress_first g t after unit piece own n k bytes within long count is is_own same =
+    let all : 16 * 0 + 16 * n - 16 * 0 ≡ 16 * n = omega arith in
+    let none : (m : ℕ) → 0 + m ≡ m = λ m. omega arith in
+    let start : IsProgress g t unit unit (t 0) 0 = record { bytes = bytes; next = refl; done = done_none 16 _ unit } in
+    rw (all, none n) at (progress_batch g t after unit unit piece (t 0) own 0 n k start (omega arith) long count (rw all is)
+    is_own (λ m low. same m low ∙ ap t (sym (none m))))
 
 -- the blocks before those of the first part of a chain
 pub before_of_part : (iv unit : List ℕ) (n m : ℕ) → m ≤ n

@@ -10,7 +10,7 @@ batches-init c = record {
   whole = omega arith;
   left = refl;
   next = refl;
-  progress = λ key is. record { bytes = record { each = search rules }; next = refl; done = done_none _ _ };
+  progress = λ key is. record { bytes = record { each = search rules }; next = refl; done = done_none _ _ _ };
 }
 
 pub batches-preserved : goal.batches-preserved
@@ -28,8 +28,8 @@ batches-preserved c =
     record {
       few = omega arith;
       whole = omega arith;
-      left = left_more unit c.batches.unit c.decrypt_batch-next.new.batch _ _ done count refl (omega arith) before.left
-          (omega arith) (omega arith);
+      left = left_more 16 unit c.batches.unit c.decrypt_batch-next.new.batch _ _ done count refl (omega arith)
+          before.left (omega arith) (omega arith);
       next = c.decrypt_batch-next.ensures.next ∙ ap (block_before c.batches.before _) size ∙ more count (omega arith);
       progress = λ key is.
           progress_batch _ _ (block_before c.batches.before _) _ _ c.decrypt_batch-next.new.batch _ _ done count _
@@ -45,7 +45,7 @@ returns c =
     let all : done ≡ length unit / 16 = omega arith in
     record {
       value = λ key is.
-          done_all _ unit c.batches.unit done (length unit / 16) (c.batches.invariant.progress key is).done
+          done_all _ _ unit c.batches.unit done (length unit / 16) (c.batches.invariant.progress key is).done
           (omega arith) all;
       next = c.batches.invariant.next ∙ ap (block_before c.args.iv unit) all;
     }

@@ -17,7 +17,7 @@ rest-init c =
     record {
       iv = record { len = omega arith; bytes = record { each = search rules } };
       progress = progress_first _ _ (block_before c.args.iv _) _ batches.new.unit _ _ _
-          (record { each = search rules }) (omega (arith, size)) (omega (arith, size))
+          (record { each = search rules }) (omega arith) (omega (arith, size)) (omega (arith, size))
           (batches.ensures.value c.args.key.now c.round_keys.ensures) batches.ensures.next
           (λ n few. before_of_part c.args.iv unit _ n few);
     }
@@ -41,7 +41,7 @@ rest-preserved c =
 pub returns-clause-value : goal.returns-clause-value
 unfolding cbc_decrypted
 returns-clause-value c =
-    done_all _ c.args.unit.now c.rest.unit c.rest.j (length c.args.unit.now / 16) c.rest.invariant.progress.done
+    done_all _ _ c.args.unit.now c.rest.unit c.rest.j (length c.args.unit.now / 16) c.rest.invariant.progress.done
     (omega arith) (omega arith)
 
 pub returns-clause-undoes : goal.returns-clause-undoes

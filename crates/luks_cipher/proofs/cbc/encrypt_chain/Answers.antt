@@ -10,7 +10,7 @@ pub loop-j-init : goal.loop-j-init
 unfolding chained
 loop-j-init c = (
   record { len = omega arith; bytes = record { each = search rules } },
-  record { bytes = record { each = search rules }; next = refl; done = done_none _ _ },
+  record { bytes = record { each = search rules }; next = refl; done = done_none _ _ _ },
 )
 
 pub loop-j-preserved : goal.loop-j-preserved
@@ -30,8 +30,8 @@ pub returns-clause-value : goal.returns-clause-value
 unfolding cbc_encrypted chained
 returns-clause-value c =
     let last = c.loop-j.j in
-    done_all _ c.args.unit.now c.loop-j.unit last (length c.args.unit.now / 16) c.loop-j.invariant.1.done (omega arith)
-    (omega arith)
+    done_all _ _ c.args.unit.now c.loop-j.unit last (length c.args.unit.now / 16) c.loop-j.invariant.1.done
+    (omega arith) (omega arith)
 
 pub returns-clause-undone : goal.returns-clause-undone
 returns-clause-undone c =

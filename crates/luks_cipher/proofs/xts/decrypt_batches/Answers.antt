@@ -9,7 +9,7 @@ batches-init c = record {
   few = omega arith;
   whole = omega arith;
   next = refl;
-  progress = λ key is. record { bytes = record { each = search rules }; next = refl; done = done_none _ _ };
+  progress = λ key is. record { bytes = record { each = search rules }; next = refl; done = done_none _ _ _ };
 }
 
 pub batches-preserved : goal.batches-preserved
@@ -38,7 +38,7 @@ returns c =
     let all : done ≡ length unit / 16 = omega arith in
     record {
       value = λ key is.
-          done_all _ unit c.batches.batches done (length unit / 16) (c.batches.invariant.progress key is).done
+          done_all _ _ unit c.batches.batches done (length unit / 16) (c.batches.invariant.progress key is).done
           (omega arith) all;
       next = c.batches.invariant.next ∙ ap (tweak_after c.args.first_tweak) all;
     }

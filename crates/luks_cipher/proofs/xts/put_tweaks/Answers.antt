@@ -7,7 +7,7 @@ use Rattle.luks_cipher.proofs.xts.put_tweaks.Goals as goal
 
 pub loop-n-init : goal.loop-n-init
 unfolding tweak_after
-loop-n-init c = record { size = c.fits-tweak.0; next_tweak = refl; done = done_none _ _ }
+loop-n-init c = record { size = c.fits-tweak.0; next_tweak = refl; done = done_none _ _ _ }
 
 pub loop-n-preserved : goal.loop-n-preserved
 unfolding tweak_after
@@ -17,7 +17,7 @@ loop-n-preserved c =
     record {
       size = ap length c.doubled-next.ensures ∙ doubled_len c.loop-n.last;
       next_tweak = rw add-one (c.doubled-next.ensures ∙ ap doubled before.next_tweak);
-      done = done_more _ _ _ _ n before.done (omega arith)
+      done = done_more 16 _ _ _ _ _ _ n _ refl refl (omega arith) before.done (omega arith)
           (length-put_chunk 0 _ c.loop-n.last ∙ (omega arith))
           (put_chunk_whole _ c.loop-n.last (omega arith) ∙ before.next_tweak);
     }
@@ -26,7 +26,7 @@ pub returns : goal.returns
 returns c =
     let count = length c.args.tweaks.now / 16 in
     let last : c.loop-n.n ≡ count = omega arith in
-    let all = done_all _ c.args.tweaks.now c.loop-n.tweaks c.loop-n.n count c.loop-n.invariant.done (omega arith)
+    let all = done_all _ _ c.args.tweaks.now c.loop-n.tweaks c.loop-n.n count c.loop-n.invariant.done (omega arith)
     last in
     record {
       value = λ n low. ap (λ x. block_at x n) all

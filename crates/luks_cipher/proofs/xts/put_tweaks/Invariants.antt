@@ -8,5 +8,5 @@ abbrev pub invariant-loop-n : goal.invariant-loop-n
 invariant-loop-n l = record {
   size : length l.last ≡ 16;
   next_tweak : l.last ≡ tweak_after l.fn.tweak l.n;
-  done : IsDoneBefore (tweak_after l.fn.tweak) l.fn.tweaks l.tweaks l.n;
+  done : IsDoneBefore 16 (tweak_after l.fn.tweak) l.fn.tweaks l.tweaks l.n;
 }

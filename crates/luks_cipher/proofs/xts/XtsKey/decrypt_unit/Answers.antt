@@ -12,7 +12,7 @@ rest-init c =
     let batches = c.decrypt_batches-tweak in
     let size = length-take-le (16 * (length unit / 16 / 32 * 32)) unit (omega arith) in
     progress_first _ _ (tweak_after c.first_tweak-first_tweak.result) _ batches.new.batches _ _ _
-    (record { each = search rules }) (omega (arith, size)) (omega (arith, size))
+    (record { each = search rules }) (omega arith) (omega (arith, size)) (omega (arith, size))
     (batches.ensures.value key
     (data_keys_of c.self.inside.data_key c.self.inside.tweak_key key c.self.invariant.same_length c.self.view_is _
     c.round_keys.ensures))
@@ -33,7 +33,7 @@ returns c =
     let key = c.args.self.now in
     let unit = c.args.unit.now in
     let value : c.rest.unit ≡ xts_decrypted key c.args.number unit =
-    done_all _ unit c.rest.unit last (length unit / 16) c.rest.invariant.done (omega arith) (omega arith) in
+    done_all _ _ unit c.rest.unit last (length unit / 16) c.rest.invariant.done (omega arith) (omega arith) in
     record {
       value = value;
       undoes = λ plain bytes same is.

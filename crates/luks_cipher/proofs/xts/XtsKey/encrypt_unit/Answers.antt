@@ -6,7 +6,7 @@ use Rattle.luks_cipher.proofs.xts.XtsKey.encrypt_unit.Goals as goal
 
 pub loop-j-init : goal.loop-j-init
 loop-j-init c = record
-    { bytes = record { each = search rules }; next = c.first_tweak-tweak.ensures.value; done = done_none _ _ }
+    { bytes = record { each = search rules }; next = c.first_tweak-tweak.ensures.value; done = done_none _ _ _ }
 
 pub loop-j-preserved : goal.loop-j-preserved
 unfolding tweak_of
@@ -22,7 +22,7 @@ returns c =
     let key = c.args.self.now in
     let unit = c.args.unit.now in
     let value : c.loop-j.unit ≡ xts_encrypted key c.args.number unit =
-    done_all _ unit c.loop-j.unit last (length unit / 16) c.loop-j.invariant.done (omega arith) (omega arith) in
+    done_all _ _ unit c.loop-j.unit last (length unit / 16) c.loop-j.invariant.done (omega arith) (omega arith) in
     record {
       value = value;
       undone = ap (xts_decrypted key c.args.number) value
