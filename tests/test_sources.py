@@ -12,8 +12,6 @@ from support import TOP, run
 def test_no_name_has_two_meanings():
     """No two definitions share a name, nor a definition in specs/ and a lemma in proofs/: a reader would have to know
     which one is meant."""
-    # the same meaning in two crates, neither of which uses the other: lists one after the other
-    kept = {"joined"}
     item = re.compile(r"^(?:abbrev |unfoldable |record |pub )+([A-Za-z_]\w*)(?= *[:({]| *$)", re.MULTILINE)
     places = collections.defaultdict(list)
     for folder in "specs", "proofs":
@@ -21,10 +19,8 @@ def test_no_name_has_two_meanings():
             for found in item.finditer(path.read_text()):
                 places[found[1]].append(f"{folder}: {path.relative_to(TOP)}")
     assert len(places) > 1000
-    twice = {name: found for name, found in places.items()
-             if len(found) > 1 and any(place.startswith("specs:") for place in found)}
-    assert {name: found for name, found in twice.items() if name not in kept} == {}
-    assert kept <= twice.keys()
+    assert {name: found for name, found in places.items()
+            if len(found) > 1 and any(place.startswith("specs:") for place in found)} == {}
 
 
 def test_order_of_the_crates():

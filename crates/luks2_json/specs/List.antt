@@ -11,10 +11,6 @@ abbrev pub items_listed : Items → List Data
 items_listed no_items = []
 items_listed (item value rest) = value ∷ items_listed rest
 
--- the value is a string
-abbrev pub is_string : Data → Bool
-is_string value = is_some (as_str value)
-
 -- the value is this string
 abbrev pub is_the_string : List ℕ → Data → Bool
 is_the_string text value = unwrap_or (option_map (bytes_eq text) (as_str value)) false
@@ -27,7 +23,7 @@ strings_among (item value rest) = cons_option (as_str value) (strings_among rest
 -- there is an array under this name, and all its items are strings
 unfoldable pub has_strings : List ℕ → Data → Bool
 has_strings name owner =
-    option_map_or (λ all. list_all is_string (items_listed all)) (in_member name as_array owner) false
+    option_map_or (λ all. list_all (λ it. is_some (as_str it)) (items_listed all)) (in_member name as_array owner) false
 
 -- there is an array under this name, and it contains the string
 unfoldable pub array_contains : List ℕ → List ℕ → Data → Bool

@@ -1,8 +1,8 @@
 //! Arrays of strings.
 
-ghost use Rattle.std.specs.Prelude.{◌≡◌, ◌++◌, [], IfOk, OnOk, List, ℕ, map, string_bytes};
+ghost use Rattle.std.specs.Prelude.{◌≡◌, ◌++◌, [], IfOk, OnOk, List, ℕ, is_some, map, string_bytes};
 ghost use Rattle.std.specs.List.{cons_option, list_all, list_any};
-ghost use Rattle.luks2_json.specs.List.{has_strings, is_string, is_the_string, items_listed};
+ghost use Rattle.luks2_json.specs.List.{has_strings, is_the_string, items_listed};
 ghost use Rattle.luks2_json.specs.List.{array_contains, strings_among, strings_at};
 ghost use Rattle.serde_json.specs.Find.{as_str};
 ghost use Rattle.serde_json.specs.View.{items_view, view as data_of};
@@ -23,7 +23,8 @@ fn is_the_string(value: &Value, text: &str) -> bool
 
 // All items of the array are strings.
 fn all_strings(values: &[Value]) -> bool
-    ensures { result ≡ list_all is_string (items_listed (items_view values.now)) }
+    ensures { result
+        ≡ list_all (λ it. is_some (as_str it)) (items_listed (items_view values.now)) }
 {
     values.iter().all(|value| value.is_string())
 }

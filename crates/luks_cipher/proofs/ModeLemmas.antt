@@ -3,7 +3,8 @@ use Rattle.std.proofs.Common.{◌≡◌, ◌∙◌, ℕ, ◌/◌, ◌%◌, ◌�
 use Rattle.std.proofs.lemmas.Bool.Decides.{nat_tests}
 use Rattle.luks_cipher.specs.Cbc.{cbc_decrypted}
 use Rattle.luks_cipher.specs.Sector.{Cipher, is_key_length, is_mode_key_length, sector_decrypted}
-use Rattle.luks_cipher.specs.Xts.{block_decrypted, block_xor, joined, xts_decrypted}
+use Rattle.luks_cipher.specs.Xts.{block_decrypted, block_xor, xts_decrypted}
+use Rattle.luks_kdf.specs.Bytes.{joined}
 use Rattle.luks_cipher.specs.declared.mode.Mode.{Mode}
 use Rattle.luks_cipher.specs.declared.mode.Mode.TheVariants.{XtsPlain64, XtsPlain, CbcEssivSha256, CbcPlain64}
 use Rattle.luks_cipher.proofs.UnitsUndone.{joined_length}

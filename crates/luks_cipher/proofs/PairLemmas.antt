@@ -5,12 +5,14 @@ use Rattle.std.proofs.lemmas.List.{length-take, take_all, take_at, drop_at, drop
 use Rattle.std.proofs.lemmas.List.{take-take, take-append-le}
 use Rattle.std.proofs.lemmas.Slice.{take-put_mid}
 use borrow.Rule.Slice.PartMut.{mid_of, put_mid, same_len_mid}
-use Rattle.luks_cipher.specs.Xts.{block_at, block_decrypted, joined, tweak_after, tweak_of, xts_decrypted}
+use Rattle.luks_cipher.specs.Xts.{block_at, block_decrypted, tweak_after, tweak_of, xts_decrypted}
+use Rattle.luks_kdf.specs.Bytes.{joined}
 use Rattle.luks_cipher.specs.Sector.{sector_decrypted}
 use Rattle.luks_cipher.specs.declared.mode.Mode.{Mode}
 use Rattle.luks_cipher.specs.Cbc.{cbc_decrypted}
 use Rattle.luks_cipher.proofs.UnitLemmas.{IsDoneBefore, block_of_part, block_of_rest, done_many, done_more}
-use Rattle.luks_cipher.proofs.UnitLemmas.{from_blocks, joined_more, tweaks_of_unit}
+use Rattle.luks_cipher.proofs.UnitLemmas.{from_blocks, tweaks_of_unit}
+use Rattle.luks_kdf.proofs.BytesLemmas.{joined_more}
 use Rattle.luks_cipher.proofs.UnitsUndone.{joined_same}
 
 -- ---- two data units of 512 bytes

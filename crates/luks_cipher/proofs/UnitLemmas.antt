@@ -18,7 +18,9 @@ use Rattle.luks_aes.proofs.Undone.{whole_state}
 use Rattle.luks_aes.proofs.MixingLemmas.{same_cells}
 use Rattle.luks_aes.specs.RoundKeys.{IsBatchKey}
 use Rattle.luks_aes.specs.declared.batch.round_keys.RoundKeys.{RoundKeys}
-use Rattle.luks_cipher.specs.Xts.{data_key, tweak_key, doubled, tweak_of, block_at, joined, block_xor}
+use Rattle.luks_cipher.specs.Xts.{data_key, tweak_key, doubled, tweak_of, block_at, block_xor}
+use Rattle.luks_kdf.specs.Bytes.{joined}
+use Rattle.luks_kdf.proofs.BytesLemmas.{joined_more}
 use Rattle.luks_cipher.specs.Xts.{block_encrypted, block_decrypted, tweak_after}
 use Rattle.luks_cipher.specs.Cbc.{block_before}
 use Rattle.luks_cipher.proofs.UnitsUndone.{joined_same, joined_units}
@@ -70,16 +72,6 @@ pub record IsDoneBefore (size : ℕ) (f : ℕ → List ℕ) (old new : List ℕ)
 pub done_none : (size : ℕ) (f : ℕ → List ℕ) (old : List ℕ) → IsDoneBefore size f old old 0
 unfolding joined
 done_none size f old = let none : size * 0 ≡ 0 = omega arith in record { done = rw none refl; left = refl }
-
-pub joined_more : (f : ℕ → List ℕ) (a b : ℕ) → joined f (a + b) ≡ joined f a ++ joined (λ n. f (a + n)) b
-unfolding joined
-joined_more f a zero =
-    let none : a + 0 ≡ a = omega arith in
-    rw none (sym (append-nil (joined f a)))
-joined_more f a (suc b) =
-    let next : a + suc b ≡ suc (a + b) = omega arith in
-    rw next (ap (λ x. x ++ f (a + b)) (joined_more f a b) ∙ append_assoc (joined f a) (joined (λ n. f (a + n)) b)
-    (f (a + b)))
 
 -- what is left after n more pieces were written
 pub left_more : (size : ℕ) (old new piece : List ℕ) (at k j n : ℕ) → at ≡ size * j → k ≡ size * n

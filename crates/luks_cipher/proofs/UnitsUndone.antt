@@ -8,7 +8,8 @@ use Rattle.std.proofs.Math.Seq.{take-add}
 use Rattle.luks_aes.specs.Field.{◌⊕◌}
 use Rattle.luks_aes.specs.Aes.{cell, encrypted, decrypted}
 use Rattle.luks_cipher.specs.Xts.{data_key, doubled_number, doubled, tweak_of, block_xor, block_at, block_encrypted}
-use Rattle.luks_cipher.specs.Xts.{block_decrypted, joined, xts_encrypted, xts_decrypted}
+use Rattle.luks_cipher.specs.Xts.{block_decrypted, xts_encrypted, xts_decrypted}
+use Rattle.luks_kdf.specs.Bytes.{joined}
 use Rattle.luks_cipher.specs.Cbc.{block_before, chained, cbc_encrypted, cbc_decrypted}
 use Rattle.luks_aes.specs.Bytes.{IsBytes}
 use Rattle.luks_aes.proofs.ColumnLemmas.{IsState, made_state, xor_byte, bytes_nil, bytes_cons, bytes_take, bytes_drop}

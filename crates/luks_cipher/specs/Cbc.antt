@@ -2,7 +2,8 @@
 -- first.
 use Rattle.std.specs.Prelude.{ℕ, zero, suc, ◌/◌, List, length}
 use Rattle.luks_aes.specs.Aes.{encrypted, decrypted}
-use Rattle.luks_cipher.specs.Xts.{block_at, block_xor, joined}
+use Rattle.luks_cipher.specs.Xts.{block_at, block_xor}
+use Rattle.luks_kdf.specs.Bytes.{joined}
 
 -- the cipher block before block j of a data unit of cipher blocks: the IV if j is 0
 unfoldable pub block_before : List ℕ → List ℕ → ℕ → List ℕ

@@ -5,7 +5,8 @@ use Rattle.std.specs.Prelude.{length, take, drop, Option, Some, None}
 use Rattle.std.specs.Int.{w128, to_le_bytes}
 use Rattle.sha2.specs.Sha256.{sha256}
 use Rattle.luks_aes.specs.Aes.{encrypted}
-use Rattle.luks_cipher.specs.Xts.{is_xts_key_length, xts_encrypted, xts_decrypted, joined}
+use Rattle.luks_cipher.specs.Xts.{is_xts_key_length, xts_encrypted, xts_decrypted}
+use Rattle.luks_kdf.specs.Bytes.{joined}
 use Rattle.luks_cipher.specs.Cbc.{cbc_encrypted, cbc_decrypted}
 use Rattle.luks_cipher.specs.declared.mode.Mode.{Mode}
 use Rattle.luks_cipher.specs.declared.mode.Mode.TheVariants.{XtsPlain64, XtsPlain, CbcEssivSha256, CbcPlain64}

@@ -5,6 +5,7 @@ use Rattle.std.specs.Int.{w128, to_le_bytes, from_le_bytes}
 use Rattle.luks_aes.specs.Field.{◌⊕◌}
 use Rattle.luks_aes.specs.Aes.{cell, state_of, encrypted, decrypted}
 use Rattle.luks_aes.specs.Bytes.{IsBytes}
+use Rattle.luks_kdf.specs.Bytes.{joined}
 
 -- Key1, for the data, and Key2, for the tweaks: the two halves of the key (5.3.1)
 abbrev pub data_key : List ℕ → List ℕ
@@ -57,11 +58,6 @@ block_encrypted key tweak block = block_xor (encrypted (data_key key) (block_xor
 -- XTS-AES-blockDec (5.4.1)
 unfoldable pub block_decrypted : List ℕ → List ℕ → List ℕ → List ℕ
 block_decrypted key tweak block = block_xor (decrypted (data_key key) (block_xor block tweak)) tweak
-
--- the blocks f 0 to f (n - 1), joined
-unfoldable pub joined : (ℕ → List ℕ) → ℕ → List ℕ
-joined f zero = []
-joined f (suc n) = joined f n ++ f n
 
 -- XTS-AES-Enc: the data unit of this number under the key (5.3.2)
 unfoldable pub xts_encrypted : List ℕ → ℕ → List ℕ → List ℕ

@@ -4,7 +4,8 @@ ghost use Rattle.std.specs.Prelude.{◌≡◌, ◌+◌, ◌*◌, ◌/◌, ◌%�
 ghost use Rattle.std.specs.Prelude.{take, drop, Some, None, if◌then◌else◌, true};
 ghost use Rattle.luks_aes.specs.RoundKeys.{IsBatchKey};
 ghost use Rattle.luks_cipher.specs.Expanded.{AreXtsKeys};
-ghost use Rattle.luks_cipher.specs.Xts.{data_key, doubled, tweak_of, block_at, joined};
+ghost use Rattle.luks_cipher.specs.Xts.{data_key, doubled, tweak_of, block_at};
+ghost use Rattle.luks_kdf.specs.Bytes.{joined};
 ghost use Rattle.luks_cipher.specs.Xts.{block_encrypted, block_decrypted, xts_encrypted};
 ghost use Rattle.luks_cipher.specs.Xts.{xts_decrypted, is_xts_key_length, tweak_after, IsKeyPair};
 ghost use Rattle.luks_aes.specs.Bytes.{IsBytes};

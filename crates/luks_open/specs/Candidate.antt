@@ -5,7 +5,7 @@ use Rattle.std.specs.Prelude.{ℕ, ◌+◌, ◌*◌, ◌/◌, Bool, false, bytes
 use Rattle.std.specs.Option.{option_map_or}
 use Rattle.luks_argon2.specs.Argon2.{argon2}
 use Rattle.luks_cipher.specs.Sector.{Cipher, sector_decrypted}
-use Rattle.luks_cipher.specs.Xts.{joined}
+use Rattle.luks_kdf.specs.Bytes.{joined}
 use Rattle.luks_cipher.specs.declared.mode.Mode.{Mode}
 use Rattle.luks_kdf.specs.Pbkdf2.{derived_key}
 use Rattle.luks_kdf.specs.Stripes.{merged}

@@ -4,7 +4,7 @@
 ghost use Rattle.std.specs.Prelude.{◌≡◌, ◌+◌, ◌*◌, ◌/◌, ◌%◌, ◌≤◌, ◌++◌, List, ℕ, true, length};
 ghost use Rattle.std.specs.Prelude.{take};
 ghost use Rattle.luks_cipher.specs.Sector.{is_key_length};
-ghost use Rattle.luks_cipher.specs.Xts.{joined};
+ghost use Rattle.luks_kdf.specs.Bytes.{joined};
 ghost use Rattle.luks_kdf.specs.declared.hash.Hash.{Hash as AnyHash};
 ghost use Rattle.luks_kdf.specs.Stripes.{splitter_after};
 ghost use Rattle.luks_format.specs.Rule.{key_material_len};

@@ -2,7 +2,7 @@
 use Rattle.std.specs.Prelude.{ℕ, ◌+◌, ◌-◌, ◌*◌, ◌/◌, ◌%◌, ◌==◌, min, nat_lt, if◌then◌else◌, List, length}
 use Rattle.std.specs.Prelude.{Option, None, Some, Result, Ok, Err}
 use Rattle.luks_cipher.specs.Sector.{Cipher, sector_decrypted}
-use Rattle.luks_cipher.specs.Xts.{joined}
+use Rattle.luks_kdf.specs.Bytes.{joined}
 use Rattle.luks_format.specs.Fields.{at}
 use Rattle.luks_format.specs.SectorSize.{bytes_of}
 pub use Rattle.luks_format.specs.Segment.{unit_number}

@@ -7,9 +7,9 @@ use Rattle.std.proofs.lemmas.List.{drop-drop, drop-take, drop_all, take_at}
 use Rattle.std.proofs.Math.Nat.{div-eq_of_lt-le, div-mul-le_self, mul-le-mul_left, mul-le-mul_right}
 use Rattle.std.proofs.Math.Seq.{take-append-add}
 use Rattle.luks_cipher.proofs.ModeLemmas.{length-sector_decrypted}
-use Rattle.luks_cipher.proofs.UnitLemmas.{joined_more}
+use Rattle.luks_kdf.proofs.BytesLemmas.{joined_more}
 use Rattle.luks_cipher.specs.Sector.{Cipher}
-use Rattle.luks_cipher.specs.Xts.{joined}
+use Rattle.luks_kdf.specs.Bytes.{joined}
 use Rattle.luks_format.specs.declared.segment.Segment.{Segment}
 use Rattle.luks_format.proofs.SectorLemmas.{sector_blocks}
 use Rattle.luks_io.proofs.EffectLemmas.{appended-more, appended-none, no_reads}

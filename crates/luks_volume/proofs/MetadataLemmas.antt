@@ -9,10 +9,11 @@ use Rattle.std.proofs.lemmas.List.Elements.{Contains-append_left, Contains-push}
 use Rattle.std.proofs.lemmas.Slice.Eq.{bytes_eq-Decides}
 use Rattle.serde_json.proofs.Views.{get_member-put, get_member-put_other}
 use Rattle.serde_json.specs.Data.{Data, put, string, Members, depth, items_depth, member, no_members, object}
-use Rattle.serde_json.specs.Find.{get_member}
+use Rattle.serde_json.specs.Find.{as_str, get_member}
+use Rattle.std.specs.Prelude.{is_some}
 use Rattle.serde_json.specs.View.{items_of}
 use Rattle.std.specs.List.{list_all, list_any}
-use Rattle.luks2_json.specs.List.{is_string, is_the_string, items_listed}
+use Rattle.luks2_json.specs.List.{is_the_string, items_listed}
 use Rattle.luks_volume.specs.Layout2.{decimal_value, keyslot_object, keyslots_below, names_below, ReadsBack, af_object}
 use Rattle.luks_volume.specs.Layout2.{area_object, config_object, digest_object, json_of, kdf_object, metadata_of}
 use Rattle.luks_volume.specs.Layout2.{segment_object, size_value}
@@ -105,6 +106,10 @@ module _ (p : Seal2) where
 pub record IsFlat (n : ℕ) (d : Data) : Type 0 where
   pub whole : has_float d ≡ false
   pub flat : depth d ≤ n
+
+-- the value is a string
+abbrev pub is_string : Data → Bool
+is_string value = is_some (as_str value)
 
 -- what is known of an array's items if all of them are strings
 pub record AreStrings (ds : List Data) : Type 0 where

@@ -1,5 +1,5 @@
 use Rattle.std.proofs.Common.{◌≡◌, ◌∙◌, ◌+◌, ◌-◌, ◌*◌, ◌/◌, ap, arith, drop, length, take}
-use Rattle.luks_cipher.specs.Xts.{joined}
+use Rattle.luks_kdf.specs.Bytes.{joined}
 use Rattle.luks_open.specs.Candidate.{material_sector}
 use Rattle.luks_open.proofs.MaterialLemmas.{sectors_of_material}
 use Rattle.luks_open.proofs.material.decrypt_sectors.Goals as goal

@@ -1,6 +1,6 @@
 use Rattle.std.proofs.Common.{◌≡◌, ◌∙◌, ◌+◌, ◌-◌, ◌*◌, ◌/◌, ◌%◌, refl, ap, arith, length, take, drop}
 use Rattle.std.proofs.lemmas.List.{length-take}
-use Rattle.luks_cipher.specs.Xts.{joined}
+use Rattle.luks_kdf.specs.Bytes.{joined}
 use Rattle.luks_open.specs.Candidate.{material_sector}
 use Rattle.luks_open.proofs.MaterialLemmas.{in_pairs, length-joined_more, pair_more}
 use Rattle.luks_open.proofs.MaterialLemmas.{sectors_none, recovered_by_last, some_bytes, whole_pairs}

@@ -1,5 +1,5 @@
 use Rattle.std.proofs.Common.{◌≡◌, ◌*◌, length}
-use Rattle.luks_cipher.specs.Xts.{joined}
+use Rattle.luks_kdf.specs.Bytes.{joined}
 use Rattle.luks_kdf.specs.Stripes.{splitter_after}
 use Rattle.luks_open.specs.Candidate.{material_sector}
 use Rattle.luks_open.proofs.material.recover_by.Given as goal
