@@ -75,10 +75,9 @@ pub fn verdict(
         None => Ok(None),
         Some(VerdictKind::Disabled) => Ok(Some(Verdict::Disabled)),
         Some(VerdictKind::Skipped(reason)) => Ok(Some(Verdict::Skipped(reason))),
-        Some(VerdictKind::Usable(_)) => match slot(alloc, header, limits, number)? {
-            Some(slot) => Ok(Some(Verdict::Usable(slot))),
-            None => unreachable!(),
-        },
+        Some(VerdictKind::Usable(_)) => {
+            Ok(slot(alloc, header, limits, number)?.map(Verdict::Usable))
+        }
     }
 }
 
