@@ -9,15 +9,14 @@ use Rattle.std.proofs.Math.Nat.{div-mul_cancel, dvd_of_mod-eq-zero, mod-add-div'
 use Rattle.std.specs.Prelude.{OnOk}
 use Rattle.std.proofs.Math.Seq.{take-add, take-append-add}
 use Rattle.luks_io.specs.Devices.{IfKnown}
-use Rattle.luks_kdf.proofs.BytesLemmas.{joined_more}
-use Rattle.luks_cipher.proofs.UnitsUndone.{joined_same}
+use Rattle.luks_kdf.proofs.BytesLemmas.{joined_length, joined_more, joined_same}
 use Rattle.luks_cipher.specs.Sector.{Cipher, sector_decrypted, units_decrypted}
 use Rattle.luks_kdf.specs.Bytes.{joined}
 use Rattle.luks_format.specs.declared.segment.Segment.{Segment}
 use Rattle.luks_payload.specs.Plain.{plain_of, sector_len, sector_plaintext, sector_start, sectors_of}
 use Rattle.luks_payload.specs.Plain.{unit_number, unit_plain, payload_bytes}
 use Rattle.luks_payload.proofs.SectorLemmas.{one_more_fits}
-use Rattle.luks_runs.proofs.PayloadLemmas.{joined_length, plain_len, sector_size, take_whole, within_len}
+use Rattle.luks_runs.proofs.PayloadLemmas.{plain_len, sector_size, take_whole, within_len}
 use Rattle.luks_access.proofs.FailingLemmas.{fails_more, few_sectors, some_sector, step_fails}
 use Rattle.luks_access.specs.Steps.{IsStep}
 use Rattle.luks_access.specs.declared.step.ReadStep.{ReadStep}

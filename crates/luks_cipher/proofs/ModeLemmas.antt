@@ -7,7 +7,7 @@ use Rattle.luks_cipher.specs.Xts.{block_decrypted, block_xor, xts_decrypted}
 use Rattle.luks_kdf.specs.Bytes.{joined}
 use Rattle.luks_cipher.specs.declared.mode.Mode.{Mode}
 use Rattle.luks_cipher.specs.declared.mode.Mode.TheVariants.{XtsPlain64, XtsPlain, CbcEssivSha256, CbcPlain64}
-use Rattle.luks_cipher.proofs.UnitsUndone.{joined_length}
+use Rattle.luks_kdf.proofs.BytesLemmas.{joined_length}
 
 -- if a key of a mode can have a length, it is a key length
 pub key_length_of_mode : (mode : Mode) (n : ℕ) → is_mode_key_length mode n ≡ true → is_key_length n ≡ true
@@ -25,7 +25,7 @@ max_mode_key mode n is =
 -- a data unit of whole blocks keeps its length if each of its blocks is replaced by one of 16 bytes
 pub blocks_length : (f : ℕ → List ℕ) (unit : List ℕ) → ((j : ℕ) → length (f j) ≡ 16) → length unit % 16 ≡ 0
     → length (joined f (length unit / 16)) ≡ length unit
-blocks_length f unit sizes whole = joined_length f (length unit / 16) (λ j low. sizes j) ∙ omega arith
+blocks_length f unit sizes whole = joined_length f 16 (length unit / 16) (λ j low. sizes j) ∙ omega arith
 
 pub length-sector_decrypted : (cipher : Cipher) (number : ℕ) (unit : List ℕ) → length unit % 16 ≡ 0
     → length (sector_decrypted cipher.0 cipher.1 number unit) ≡ length unit

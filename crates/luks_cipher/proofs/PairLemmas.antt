@@ -12,8 +12,7 @@ use Rattle.luks_cipher.specs.declared.mode.Mode.{Mode}
 use Rattle.luks_cipher.specs.Cbc.{cbc_decrypted}
 use Rattle.luks_cipher.proofs.UnitLemmas.{IsDoneBefore, block_of_part, block_of_rest, done_many, done_more}
 use Rattle.luks_cipher.proofs.UnitLemmas.{from_blocks, tweaks_of_unit}
-use Rattle.luks_kdf.proofs.BytesLemmas.{joined_more}
-use Rattle.luks_cipher.proofs.UnitsUndone.{joined_same}
+use Rattle.luks_kdf.proofs.BytesLemmas.{joined_more, joined_same}
 
 -- ---- two data units of 512 bytes
 

@@ -20,10 +20,10 @@ use Rattle.luks_aes.specs.RoundKeys.{IsBatchKey}
 use Rattle.luks_aes.specs.declared.batch.round_keys.RoundKeys.{RoundKeys}
 use Rattle.luks_cipher.specs.Xts.{data_key, tweak_key, doubled, tweak_of, block_at, block_xor}
 use Rattle.luks_kdf.specs.Bytes.{joined}
-use Rattle.luks_kdf.proofs.BytesLemmas.{joined_more}
+use Rattle.luks_kdf.proofs.BytesLemmas.{joined_more, joined_same}
 use Rattle.luks_cipher.specs.Xts.{block_encrypted, block_decrypted, tweak_after}
 use Rattle.luks_cipher.specs.Cbc.{block_before}
-use Rattle.luks_cipher.proofs.UnitsUndone.{joined_same, joined_units}
+use Rattle.luks_cipher.proofs.UnitsUndone.{joined_units}
 
 -- ---- the two halves of a key
 
@@ -263,7 +263,8 @@ progress_first g t after unit piece own n k bytes within long count is is_own sa
     let all : 16 * 0 + 16 * n - 16 * 0 ≡ 16 * n = omega arith in
     let none : (m : ℕ) → 0 + m ≡ m = λ m. omega arith in
     let start : IsProgress g t unit unit (t 0) 0 = record { bytes = bytes; next = refl; done = done_none 16 _ unit } in
-    rw (all, none n) at (progress_batch g t after unit unit piece (t 0) own 0 n k start (omega arith) long count (rw all is)
+    rw (all, none n) at (progress_batch g t after unit unit piece (t 0) own 0 n k start (omega arith) long count
+    (rw all is)
     is_own (λ m low. same m low ∙ ap t (sym (none m))))
 
 -- the blocks before those of the first part of a chain

@@ -10,6 +10,7 @@ use Rattle.luks_aes.specs.Aes.{cell, encrypted, decrypted}
 use Rattle.luks_cipher.specs.Xts.{data_key, doubled_number, doubled, tweak_of, block_xor, block_at, block_encrypted}
 use Rattle.luks_cipher.specs.Xts.{block_decrypted, xts_encrypted, xts_decrypted}
 use Rattle.luks_kdf.specs.Bytes.{joined}
+use Rattle.luks_kdf.proofs.BytesLemmas.{joined_length, joined_same}
 use Rattle.luks_cipher.specs.Cbc.{block_before, chained, cbc_encrypted, cbc_decrypted}
 use Rattle.luks_aes.specs.Bytes.{IsBytes}
 use Rattle.luks_aes.proofs.ColumnLemmas.{IsState, made_state, xor_byte, bytes_nil, bytes_cons, bytes_take, bytes_drop}
@@ -56,20 +57,13 @@ tweak_state key number (suc j) keys = le_state (doubled_number (from_le_bytes w1
 
 -- ---- joined blocks
 
-pub joined_length : (f : ℕ → List ℕ) (n : ℕ) → ((j : ℕ) → j < n → length (f j) ≡ 16) → length (joined f n) ≡ 16 * n
-unfolding joined
-joined_length f zero sizes = refl
-joined_length f (suc n) sizes =
-    let before = joined_length f n (λ j low. sizes j (omega arith)) in
-    rw (length-append (joined f n) (f n), before, sizes n (omega arith)) (omega arith)
-
 pub joined_at : (f : ℕ → List ℕ) (n j : ℕ) → ((j : ℕ) → j < n → length (f j) ≡ 16) → j < n
     → block_at (joined f n) j ≡ f j
 unfolding joined
 joined_at f zero j sizes low = absurd (omega arith)
 joined_at f (suc n) j sizes low =
     let smaller : (k : ℕ) → k < n → length (f k) ≡ 16 = λ k below. sizes k (omega arith) in
-    let before = joined_length f n smaller in
+    let before : length (joined f n) ≡ 16 * n = joined_length f 16 n smaller ∙ omega arith in
     elim (cases_lt j n) [
       | inl inside ↦
           let rest = drop (16 * j) (joined f n) in
@@ -81,12 +75,6 @@ joined_at f (suc n) j sizes low =
           rw e (ap (take 16) (drop_at (joined f n) (f n) (16 * n) before)
           ∙ take_all 16 (f n) (omega (arith, sizes n (omega arith))))
     ]
-
-pub joined_same : (f g : ℕ → List ℕ) (n : ℕ) → ((j : ℕ) → j < n → f j ≡ g j) → joined f n ≡ joined g n
-unfolding joined
-joined_same f g zero same = refl
-joined_same f g (suc n) same =
-    rw (joined_same f g n (λ j low. same j (omega arith)), same n (omega arith)) refl
 
 -- joining the first n pieces of `size` bytes of a list gives its first `n * size` bytes
 pub joined_units : (bytes : List ℕ) (size n : ℕ)
@@ -104,7 +92,7 @@ unit_again : (f g : ℕ → List ℕ) (unit : List ℕ) → length unit % 16 ≡
     → joined g (length (joined f (length unit / 16)) / 16) ≡ unit
 unit_again f g unit whole sizes same =
     let n = length unit / 16 in
-    let count : length (joined f n) / 16 ≡ n = rw (joined_length f n sizes) (omega arith) in
+    let count : length (joined f n) / 16 ≡ n = rw (joined_length f 16 n sizes) (omega arith) in
     let index : (j : ℕ) → 16 * j ≡ j * 16 = λ j. omega arith in
     rw count
     (joined_same g (λ j. take 16 (drop (j * 16) unit)) n

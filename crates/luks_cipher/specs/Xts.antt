@@ -1,6 +1,6 @@
 -- XTS-AES (IEEE 1619) on data units whose length is a multiple of 16 bytes. Section numbers are the standard's.
 use Rattle.std.specs.Prelude.{◌≡◌, ℕ, zero, suc, ◌+◌, ◌-◌, ◌*◌, ◌/◌, ◌^◌, Bool, ◌||◌, nat_lt, ◌==◌, if◌then◌else◌, List}
-use Rattle.std.specs.Prelude.{[], ◌++◌, length, take, drop, IsTrue}
+use Rattle.std.specs.Prelude.{length, take, drop, IsTrue}
 use Rattle.std.specs.Int.{w128, to_le_bytes, from_le_bytes}
 use Rattle.luks_aes.specs.Field.{◌⊕◌}
 use Rattle.luks_aes.specs.Aes.{cell, state_of, encrypted, decrypted}

@@ -60,7 +60,7 @@ PromptPayload Attached image message consumed output = (segment : Segment) → H
 PromptPayload Detached file message consumed output = (segment : Segment) → HasSegmentBy detached_header_of file segment
     → PromptForwarding segment 0 message consumed.payload output
 
--- opening a volume was aborted: if memory ran out, then after so many bytes of the image that it may
+-- opening a volume was aborted: memory runs out only after a number of bytes of the image at which it may
 abbrev pub AbortedOpening : HeaderLocation → AllowedSlots → List ℕ → Promptness
 AbortedOpening location slots image OutOfMemory consumed _ = MayRunOut (reader_for location) slots image consumed.input
 AbortedOpening location slots image _ consumed output = Unit {0}
@@ -91,7 +91,7 @@ RunsOverInput outcome message bytes = IfKnown bytes.input.before (λ input.
     RunMatches AnyPromptness (outcome input) message (ConsumedExactly input bytes.input.after) ConsumedNothing
     (Appended bytes.output.before bytes.output.after))
 
--- the same for the first input and the second one. How promptly an aborted run ends is said for each first input
+-- the same for the first input and the second one; `pace`, for the first, says how promptly an aborted run ends
 abbrev pub RunsOverInputs : (List ℕ → Promptness) → (List ℕ → List ℕ → Outcome) → Message
     → Devices (Option (List ℕ)) (Option (List ℕ)) → Type 0
 RunsOverInputs pace outcome message bytes = IfKnown bytes.input.before (λ input. IfKnown bytes.secret.before (λ secret.

@@ -2,7 +2,7 @@
 use Rattle.std.proofs.lemmas.Grind.{common_steps}
 use Rattle.std.proofs.Common.{◌≡◌, ◌∙◌, ℕ, ◌*◌, ◌≤◌, List, ◌++◌, Option, Some, None, Bool, true}
 use Rattle.std.proofs.Common.{false, ap, sym, refl, length, max, arith}
-use Rattle.std.specs.Prelude.{nat_lt, option_and_then}
+use Rattle.std.specs.Prelude.{filter, map, nat_lt, option_and_then}
 use Rattle.std.specs.List.{find}
 use Rattle.std.proofs.lemmas.Option.{option_and_then_some}
 use Rattle.luks_format.specs.Choice2.{binary_at, chosen2_of, header2_at, is_valid}
@@ -14,7 +14,7 @@ use Rattle.luks_format.specs.Text2.{json_text_of, header_offset}
 use Rattle.luks_format.specs.declared.binary_header2.Header2.{Header2}
 use Rattle.luks_format.specs.declared.binary_header2.HeaderRole.{HeaderRole}
 use Rattle.luks_format.specs.declared.binary_header2.HeaderRole.TheVariants.{Primary, Secondary}
-use Rattle.luks_format.proofs.Valid2Lemmas.{at_more, found_passes, own_size, probe_fit}
+use Rattle.luks_format.proofs.Valid2Lemmas.{at_more, found_passes, furthest_is, is_tried, max_of, own_size, probe_fit}
 use Rattle.luks_format.proofs.Valid2Lemmas.{probe_least, probe_more, probe_unfit}
 use Rattle.luks_format.proofs.Valid2Lemmas.{valid_more, valid_parts, valid_range, walk_same}
 
@@ -33,6 +33,11 @@ module _ (image : List ℕ) where
       → probe2_len image ≡ max (probe_end image 0) (furthest (is_valid image) (probe_end image) sizes)
   unfolding probe2_len
   probe_other is = rw is refl
+
+  -- without a valid primary header, the image is read to the maximum over its start and the offsets that are tried
+  pub probe2_len_is : is_valid image 0 ≡ false → probe2_len image ≡ max (probe_end image 0)
+      (max_of (map (probe_end image) (filter (is_tried (is_valid image)) sizes)))
+  probe2_len_is is = probe_other is ∙ ap (max (probe_end image 0)) (furthest_is (is_valid image) (probe_end image))
 
   -- the primary header is read in each case
   pub probe_first : probe_end image 0 ≤ probe2_len image

@@ -140,18 +140,18 @@ abbrev pub max_of : List ℕ → ℕ
 max_of [] = 0
 max_of (number ∷ numbers) = max number (max_of numbers)
 
-module _ (valid : ℕ → Bool) (probe : ℕ → ℕ) where
-  -- no lower one of the nine offsets has a valid header
-  abbrev pub tried : ℕ → Bool
-  tried offset = not (list_any (λ other. nat_lt other offset && valid other) sizes)
+-- no lower one of the nine offsets has a valid header
+abbrev pub is_tried : (ℕ → Bool) → ℕ → Bool
+is_tried valid offset = not (list_any (λ other. nat_lt other offset && valid other) sizes)
 
+module _ (valid : ℕ → Bool) (probe : ℕ → ℕ) where
   -- the walk reads as far as the offsets that are tried
-  abbrev pub IsOne : Type 0
-  IsOne = furthest valid probe sizes ≡ max_of (map probe (filter tried sizes))
+  abbrev pub ReadsTried : Type 0
+  ReadsTried = furthest valid probe sizes ≡ max_of (map probe (filter (is_tried valid) sizes))
 
   -- for each offset that is the first valid one, and for none
   one_by : (a b c d e f g h i : Bool) → valid 16384 ≡ a → valid 32768 ≡ b → valid 65536 ≡ c → valid 131072 ≡ d
-      → valid 262144 ≡ e → valid 524288 ≡ f → valid 1048576 ≡ g → valid 2097152 ≡ h → valid 4194304 ≡ i → IsOne
+      → valid 262144 ≡ e → valid 524288 ≡ f → valid 1048576 ≡ g → valid 2097152 ≡ h → valid 4194304 ≡ i → ReadsTried
   unfolding sizes furthest
   one_by true _ _ _ _ _ _ _ _ a _ _ _ _ _ _ _ _ = rw a refl
   one_by false true _ _ _ _ _ _ _ a b _ _ _ _ _ _ _ = rw (a, b) refl
@@ -164,13 +164,8 @@ module _ (valid : ℕ → Bool) (probe : ℕ → ℕ) where
   one_by false false false false false false false false true a b c d e f g h i = rw (a, b, c, d, e, f, g, h, i) refl
   one_by false false false false false false false false false a b c d e f g h i = rw (a, b, c, d, e, f, g, h, i) refl
 
-  pub are_one : IsOne
-  are_one = grind (arith, common_steps, one_by)
-
--- the number of bytes that the search reads is the maximum over the offsets that it tries
-pub search_len_is : (image : List ℕ) → furthest (is_valid image) (probe_end image) sizes
-    ≡ max_of (map (probe_end image) (filter (tried (is_valid image) (probe_end image)) sizes))
-search_len_is image = are_one (is_valid image) (probe_end image)
+  pub furthest_is : ReadsTried
+  furthest_is = grind (arith, common_steps, one_by)
 
 -- ---- the search for a secondary header, offset by offset
 

@@ -13,8 +13,8 @@ use Rattle.luks_format.specs.Header1.{header1_len}
 use Rattle.luks_format.specs.Slot1.{hash1_of, mode1_of}
 use Rattle.luks_format.specs.declared.header.Header1.{Header1}
 
--- the possible faults of the segment. The last is that it starts inside an attached header. (It starts at a multiple of
--- 512 bytes.)
+-- the possible faults of the segment. The third is that the length of the volume key is none of the mode. The last is
+-- that it starts inside an attached header. (It starts at a multiple of 512 bytes.)
 unfoldable pub segment_faults1 : Header1 → List (Bool × SegmentFault)
 segment_faults1 header =
     (is_none (mode1_of header), Encryption)

@@ -8,18 +8,13 @@ use Rattle.luks_format.specs.Choice2.{binary_at, fits, is_valid}
 use Rattle.luks_format.specs.Header2.{sizes}
 use Rattle.luks_format.specs.ReadLen2.{IsNextEnd, furthest, probe2_len, probe_end}
 use Rattle.luks_format.proofs.Choice2Lemmas.{probe_other, probe_primary}
-use Rattle.luks_format.proofs.Valid2Lemmas.{fits_parts, probe_fit, probe_unfit}
+use Rattle.luks_format.proofs.Valid2Lemmas.{fits_parts, max_of, probe_fit, probe_unfit}
 use Rattle.luks_format.proofs.Valid2Lemmas.{size_range, valid_range}
 use Rattle.luks_header.specs.Header.{header_of, header_read_len, probe_len}
 use Rattle.luks_header.proofs.KnownLemmas.{probe_is}
 use Rattle.luks_header.proofs.LoadingLemmas.{decided}
 
 -- ---- no more than 8 MiB are read
-
--- the maximum of some numbers
-abbrev max_of : List ℕ → ℕ
-max_of [] = 0
-max_of (number ∷ numbers) = max number (max_of numbers)
 
 module _ (image : List ℕ) where
   probe_near : (offset : ℕ) → offset ≤ 4194304 → probe_end image offset ≤ 8388608

@@ -34,7 +34,7 @@ diffused_is h block =
     let same : (j : ℕ) → diffused_piece h block j ≡ cut pieces size n j =
     λ j. ap (λ (m : ℕ). take m (pieces j))
     (length-take size (drop (j * size) block) ∙ ap (λ (m : ℕ). min size m) (length-drop (j * size) block)) in
-    joined_same (diffused_piece h block) (cut pieces size n) same (div_ceil n size)
+    joined_same (diffused_piece h block) (cut pieces size n) (div_ceil n size) (λ j low. same j)
     ∙ take-joined pieces size (length-hashed_piece h block size refl) n (div_ceil n size)
 
 -- the length of a diffused block is that of the block

@@ -8,7 +8,7 @@ use Rattle.luks_kdf.specs.Stripes.{merged}
 use Rattle.luks_kdf.specs.declared.hash.Hash.{Hash}
 use Rattle.luks_cipher.specs.Sector.{Cipher, sector_decrypted}
 use Rattle.luks_cipher.specs.declared.mode.Mode.{Mode}
-use Rattle.luks_cipher.proofs.UnitsUndone.{joined_same}
+use Rattle.luks_kdf.proofs.BytesLemmas.{joined_same}
 use Rattle.luks_format.proofs.FieldLemmas.{at_prefix}
 use Rattle.luks_format.specs.Rule.{key_material_len}
 use Rattle.luks_format.specs.Slot.{material_end}

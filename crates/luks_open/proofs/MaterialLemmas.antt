@@ -12,8 +12,7 @@ use Rattle.luks_format.proofs.FieldLemmas.{at_prefix}
 use Rattle.luks_cipher.specs.Sector.{Cipher, is_key_length, sector_decrypted, units_decrypted}
 use Rattle.luks_kdf.specs.Bytes.{joined}
 use Rattle.luks_cipher.proofs.ModeLemmas.{length-sector_decrypted}
-use Rattle.luks_kdf.proofs.BytesLemmas.{joined_more}
-use Rattle.luks_cipher.proofs.UnitsUndone.{joined_same}
+use Rattle.luks_kdf.proofs.BytesLemmas.{joined_more, joined_same}
 use Rattle.luks_kdf.specs.declared.hash.Hash.{Hash}
 use Rattle.luks_kdf.specs.Bytes.{xor}
 use Rattle.luks_kdf.specs.Stripes.{AfSplitterModel, splitter_after, splitter_with, merged}

@@ -83,7 +83,7 @@ CanBeTried _ = ⊥
 
 -- opening ends with this fault, after this many bytes of the image and of the passphrase
 abbrev pub failed_opening : VolumeFault → ℕ → ℕ → VolumeOpening
-failed_opening fault image secret = record { result = Err fault; consumed = image; secret_consumed = secret }
+failed_opening fault read secret_read = record { result = Err fault; consumed = read; secret_consumed = secret_read }
 
 -- a volume was found: the passphrase is read whole, then the image up to the end of the last key material, and the key
 -- slots are tried

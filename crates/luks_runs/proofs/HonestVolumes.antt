@@ -22,7 +22,8 @@ use Rattle.luks_cipher.specs.Sector.{is_mode_key_length}
 use Rattle.luks_cipher.specs.declared.mode.Mode.{Mode}
 use Rattle.luks_cipher.specs.declared.mode.Mode.TheVariants.{XtsPlain64, XtsPlain, CbcEssivSha256, CbcPlain64}
 use Rattle.luks_cipher.proofs.UnitsUndone.{cbc_decrypted-cbc_encrypted, le_state, xts_decrypted-xts_encrypted}
-use Rattle.luks_cipher.proofs.UnitsUndone.{joined_same, joined_units}
+use Rattle.luks_cipher.proofs.UnitsUndone.{joined_units}
+use Rattle.luks_kdf.proofs.BytesLemmas.{joined_same}
 use Rattle.luks_kdf.specs.Bytes.{joined}
 use Rattle.luks_cipher.proofs.ModeLemmas.{key_length_of_mode}
 use Rattle.luks_format.specs.Fields.{at}

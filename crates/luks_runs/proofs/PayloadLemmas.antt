@@ -7,7 +7,7 @@ use Rattle.std.proofs.lemmas.List.{drop-drop, drop-take, drop_all, take_at}
 use Rattle.std.proofs.Math.Nat.{div-eq_of_lt-le, div-mul-le_self, mul-le-mul_left, mul-le-mul_right}
 use Rattle.std.proofs.Math.Seq.{take-append-add}
 use Rattle.luks_cipher.proofs.ModeLemmas.{length-sector_decrypted}
-use Rattle.luks_kdf.proofs.BytesLemmas.{joined_more}
+use Rattle.luks_kdf.proofs.BytesLemmas.{joined_length, joined_more}
 use Rattle.luks_cipher.specs.Sector.{Cipher}
 use Rattle.luks_kdf.specs.Bytes.{joined}
 use Rattle.luks_format.specs.declared.segment.Segment.{Segment}
@@ -30,13 +30,6 @@ use Rattle.luks_report.specs.Faults.{message_at_end, message_for_payload}
 use Rattle.luks_report.specs.declared.message.Message.TheVariants.{Done}
 
 -- ---- lengths
-
-pub joined_length : (f : ℕ → List ℕ) (z n : ℕ) → ((j : ℕ) → j < n → length (f j) ≡ z) → length (joined f n) ≡ n * z
-unfolding joined
-joined_length f z zero sizes = omega arith
-joined_length f z (suc n) sizes =
-    let before = joined_length f z n (λ j low. sizes j (omega arith)) in
-    rw (length-append (joined f n) (f n), before, sizes n (omega arith)) (omega arith)
 
 -- a prefix of the joined pieces that ends with a piece
 pub take_whole : (f : ℕ → List ℕ) (z n k : ℕ) → ((j : ℕ) → j < n → length (f j) ≡ z) → k ≤ n

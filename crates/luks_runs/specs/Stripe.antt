@@ -1,4 +1,4 @@
--- The outcomes of the commands on stripes, and the effects of their parts on their devices.
+-- The outcomes of the commands on stripes, how promptly a split is aborted, and what it adds to counts.
 use Rattle.std.specs.Prelude.{ℕ, ◌≤◌, ◌+◌, ◌-◌, ◌*◌, ◌/◌, ◌&&◌, List, length, take, min, nat_lt, nat_le}
 use Rattle.std.specs.Prelude.{if◌then◌else◌, ◌≡◌, not, Bool, true, false}
 use Rattle.luks_kdf.specs.Stripes.{merged, split_stripes}

@@ -1,7 +1,6 @@
 //! `afSplit` and `afMerge`: keys, and the stripes that they are split into.
 
-ghost use Rattle.std.specs.Prelude.{◌≡◌, ◌*◌, ◌<◌, ◌⊎◌, ◌+◌, Bool, List, ℕ, IfOk, IfErr, OnOk};
-ghost use Rattle.std.specs.Prelude.{Option, length, take};
+ghost use Rattle.std.specs.Prelude.{◌≡◌, ◌<◌, ◌⊎◌, ◌+◌, List, ℕ, Option, length};
 ghost use Rattle.luks_io.specs.Devices.{Appended, ConsumedExactly, IfKnown};
 ghost use Rattle.luks_io.specs.Counts.{Reads, Writes};
 ghost use Rattle.luks_runs.specs.Run.{ConsumedNothing, RunMatches, AnyPromptness, result_message};
@@ -41,6 +40,7 @@ pub fn split<K: Source, R: Source, O: Sink>(
     ensures writes { Writes (is_run_write_failure (result_message result))
         (O.counts out.old) (O.counts out.new) }
 {
+    // (one byte more, so that a longer key is refused and not cut)
     let mut key_buf = [0; MAX_KEY_LEN + 1];
     let len = fill(key, &mut key_buf)?;
     if len == 0 || len > MAX_KEY_LEN {
@@ -77,6 +77,7 @@ fn split_key<R: Source, O: Sink>(
         if fill(random, block)? < key.len() {
             return Err(Message::FewRandomBytes);
         }
+        // (as soon as it is whole)
         put_all(out, block)?;
         splitter.stripe(block);
     }
