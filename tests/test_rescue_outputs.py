@@ -349,11 +349,14 @@ DECRYPT, SERVE, TRY = "decrypt disk.img -o x", "serve disk.img x", "try disk.img
     ("", "usage"), ("nonsense", "usage"), ("decrypt", "decrypt"), ("decrypt disk.img", "decrypt"), ("look", "look"),
     ("look --x disk.img", "--x"), ("look --jso disk.img", "--jso"), ("serve", "serve"), ("serve disk.img", "serve"),
     ("try disk.img", "--candidates"), ("try --candidates pass", "IMAGE"),
-    *((f"{command} --key-slot 32", "--key-slot") for command in (DECRYPT, SERVE, TRY)),
+    *((f"{command} --key-slot 32", "--key-slot: '32' is not a number from 0 to 31")
+      for command in (DECRYPT, SERVE, TRY)),
     *((f"{command} --key-file a --volume-key-file b", "not allowed with") for command in (DECRYPT, SERVE)),
-    (f"{TRY} --jobs 0", "--jobs"), (f"{TRY} --max-iterations 0", "--max-iterations"),
-    (f"{DECRYPT} --range 1", "--range"), (f"{DECRYPT} --cipher rot13", "--cipher"),
-    (f"{DECRYPT} --resume --retry m", "not allowed with"), (f"{DECRYPT} --length 0x", "--length")])
+    (f"{TRY} --jobs 0", "--jobs: 0 is not from 1 to 1024; luksrd-rescue try --help explains"),
+    (f"{TRY} --max-iterations 0", "--max-iterations: 0 is not from 1 to 4294967295"),
+    (f"{DECRYPT} --range 1", "--range: '1' is not OFFSET:LENGTH, such as 0:1Mi"), (f"{DECRYPT} --cipher a", "--cipher"),
+    (f"{DECRYPT} --resume --retry m", "not allowed with"), (f"{DECRYPT} --offset 8Ei", "'8Ei' is 2^63 or more"),
+    (f"{DECRYPT} --length 0x", "--length: '0x' is no number of bytes, such as 1048576, 0x100000, 2048s, 1Mi or 500G")])
 def test_arguments_that_cannot_be(rescue, disk1, line, text):
     ended = rescue(*line.split())
     says(ended, "usage: luksrd-rescue", text, status=1)
