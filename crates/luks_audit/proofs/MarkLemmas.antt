@@ -2,7 +2,7 @@
 use Rattle.std.proofs.Common.{◌≡◌, ◌∙◌, ◌∷◌, ◌++◌, ◌&&◌, ◌||◌, ◌==◌, ◌-◌, ◌≤◌, ℕ, Bool, true, false, List, [], None}
 use Rattle.std.proofs.Common.{ap, arith, length, refl, sym, take}
 use Rattle.std.proofs.Math.Seq.{take-length, take-suc}
-use Rattle.std.proofs.lemmas.Bool.{or_from, or_parts}
+use Rattle.std.proofs.lemmas.Bool.{ltb-false, ne_eqb, or_from, or_parts}
 use Rattle.std.proofs.lemmas.Option.{unwrap_or-slice_get}
 use Rattle.std.specs.Prelude.{nat_le, zero, suc}
 use Rattle.luks_audit.specs.Marks.{text_byte, has_lead, is_behind, is_lead, mark_at, mark_of, marks_escaped, printed_at}
@@ -16,10 +16,13 @@ lead_none (byte ∷ rest) (suc i) none = lead_none rest i (or_parts (is_lead byt
 mark_none : (a b c : ℕ) → is_lead a ≡ false → mark_of a b c ≡ None
 unfolding mark_of
 mark_none a b c none =
-    let one = or_parts (a == 127) ((a == 194) || ((a == 216) || (a == 226))) none in
-    let two = or_parts (a == 194) ((a == 216) || (a == 226)) one.1 in
-    let three = or_parts (a == 216) (a == 226) two.1 in
-    rw one.0 (rw two.0 (rw three.0 (rw three.1 refl)))
+    let low : a ≤ 126 = ltb-false 126 a none in
+    rw (
+      ne_eqb a 127 (λ is. omega (arith, low, is)),
+      ne_eqb a 194 (λ is. omega (arith, low, is)),
+      ne_eqb a 216 (λ is. omega (arith, low, is)),
+      ne_eqb a 226 (λ is. omega (arith, low, is)),
+    ) refl
 
 at_none : (text : List ℕ) (i : ℕ) → has_lead text ≡ false → mark_at text i ≡ None
 unfolding mark_at

@@ -39,9 +39,9 @@ text_byte text i = unwrap_or (slice_get text i) 0
 unfoldable pub mark_at : List ℕ → ℕ → Option Mark
 mark_at text i = mark_of (text_byte text i) (text_byte text (i + 1)) (text_byte text (i + 2))
 
--- a byte with which a mark can begin
+-- a byte with which a mark can begin: DEL, or one that is not ASCII
 abbrev pub is_lead : ℕ → Bool
-is_lead byte = (byte == 127) || ((byte == 194) || ((byte == 216) || (byte == 226)))
+is_lead byte = nat_lt 126 byte
 
 abbrev pub has_lead : List ℕ → Bool
 has_lead text = list_any is_lead text

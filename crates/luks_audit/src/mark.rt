@@ -161,11 +161,11 @@ fn escape_all(alloc: Global, text: &[u8]) -> Result<Vec<u8>, AllocError>
     Ok(made)
 }
 
-// Whether a mark can begin with the byte.
+// Whether a mark can begin with the byte: it is DEL, or not ASCII.
 fn is_lead(byte: u8) -> bool
     ensures { result ≡ is_lead byte }
 {
-    byte == 127 || byte == 194 || byte == 216 || byte == 226
+    126 < byte
 }
 
 // Whether a mark can begin with one of the bytes. All are looked at, since that takes fewer
