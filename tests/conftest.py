@@ -25,6 +25,10 @@ from kinds import kinds  # noqa: E402, F401
 from rescuing import bad_sectors, disk1, disk2, luks_cat, rescue  # noqa: E402, F401
 from support import MARK, TOP, Audit, Program, wait_until  # noqa: E402
 
+# Under nohup, what a test starts would ignore the signal that it sends.
+if signal.getsignal(signal.SIGHUP) == signal.SIG_IGN:
+    signal.signal(signal.SIGHUP, lambda *_: None)
+
 # The options of the make that calls pytest are not for those that tests call.
 for variable in "MAKEFLAGS", "MFLAGS", "MAKELEVEL":
     os.environ.pop(variable, None)

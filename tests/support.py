@@ -151,7 +151,7 @@ def limited(option, kib):
 
 def memory_of(process, rights="r"):
     """What is in the memory of a process with these rights: where each range starts, and its bytes. What may be written
-    can be read; what has other rights may be a page of the kernel."""
+    can be read, unless it was given back meanwhile; what has other rights may be a page of the kernel."""
     with open(f"/proc/{process}/maps", encoding="utf-8") as maps, open(f"/proc/{process}/mem", "rb", 0) as memory:
         for addresses, has, *names in map(str.split, maps):
             if not has.startswith(rights) or names[-1] in ("[vvar]", "[vsyscall]"):
@@ -161,7 +161,8 @@ def memory_of(process, rights="r"):
             try:
                 content = memory.read(end - start)
             except OSError:
-                assert "w" not in has, (addresses, has, names)
+                with open(f"/proc/{process}/maps", encoding="utf-8") as now:
+                    assert "w" not in has or addresses not in now.read(), (addresses, has, names)
                 continue
             yield start, content
 

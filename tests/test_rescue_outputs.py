@@ -349,8 +349,8 @@ DECRYPT, SERVE, TRY = "decrypt disk.img -o x", "serve disk.img x", "try disk.img
     ("", "usage"), ("nonsense", "usage"), ("decrypt", "decrypt"), ("decrypt disk.img", "decrypt"), ("look", "look"),
     ("look --x disk.img", "--x"), ("look --jso disk.img", "--jso"), ("serve", "serve"), ("serve disk.img", "serve"),
     ("try disk.img", "--candidates"), ("try --candidates pass", "IMAGE"),
-    *((f"{command} --key-slot 32", "--key-slot: '32' is not a number from 0 to 31")
-      for command in (DECRYPT, SERVE, TRY)),
+    *((f"{command} --key-slot 32", "--key-slot: '32' is not a number from 0 to 31") for command in (DECRYPT, SERVE)),
+    (f"{TRY} --key-slot 32", "--key-slot: 32 is not from 0 to 31"),
     *((f"{command} --key-file a --volume-key-file b", "not allowed with") for command in (DECRYPT, SERVE)),
     (f"{TRY} --jobs 0", "--jobs: 0 is not from 1 to 1024; luksrd-rescue try --help explains"),
     (f"{TRY} --max-iterations 0", "--max-iterations: 0 is not from 1 to 4294967295"),
