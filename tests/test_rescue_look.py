@@ -427,7 +427,8 @@ AT_A_BYTE, IN_A_SEARCH = r"at byte \d+: Input/output error", "while it was searc
 @pytest.mark.parametrize("options, places, where", [
     pytest.param([], (0, 512), AT_A_BYTE, marks=pytest.mark.of_script),
     pytest.param([], (PLACES["luks"], 512), AT_A_BYTE, marks=pytest.mark.of_script),
-    ([], (PLACES["luks"] + 16384, 4096), AT_A_BYTE), (["--search"], (4 * MIB, 512), IN_A_SEARCH)],
+    pytest.param([], (PLACES["luks"] + 16384, 4096), AT_A_BYTE, marks=pytest.mark.of_script),
+    (["--search"], (4 * MIB, 512), IN_A_SEARCH)],
     ids=["the table", "the header", "the other header", "a search"])
 def test_a_failed_read(rescue, laptop, bad_sectors, tmp_path, options, places, where):
     """It says how to make an image first."""
